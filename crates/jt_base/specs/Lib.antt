@@ -1,1 +1,5 @@
+pub mod MemorySink
+pub mod MemorySource
 pub mod Names
+pub mod Outside
+pub mod Picks

@@ -3,19 +3,35 @@
 #![tactic(auto)]
 
 mod entry;
+mod gate;
 mod memory;
+mod memory_sink;
+mod memory_source;
 mod name;
 mod operation;
 mod path;
+mod picks;
 mod run;
+mod sink;
+mod source;
+mod standard;
+#[cfg(test)]
+mod tests;
 mod text;
 mod value;
 
 pub use entry::{Ask, Entry, Note};
+pub use gate::{Gate, OpenGate};
 pub use memory::OutOfMemory;
+pub use memory_sink::MemorySink;
+pub use memory_source::MemorySource;
 pub use name::Name;
 pub use operation::{Fault, How, Op, Reply};
 pub use path::{Path, PathFull};
+pub use picks::Picks;
 pub use run::{Limits, Pool, Seeds, Sizes};
+pub use sink::{Sink, WriteFailed};
+pub use source::{ReadFailed, Source};
+pub use standard::{StdSink, StdSource};
 pub use text::Text;
 pub use value::{Kind, Value};

@@ -1,0 +1,4 @@
+pub mod Moves
+pub mod Examples
+mod PicksExamples
+pub mod PicksLemmas
