@@ -1,0 +1,6 @@
+pub mod DivisionLemmas
+mod Examples
+pub mod PowerLemmas
+pub mod ProductLemmas
+pub mod ShiftLemmas
+pub mod WrappingLemmas

@@ -1,0 +1,4 @@
+pub mod Division
+pub mod Powers
+pub mod Shifts
+pub mod Wrapping
