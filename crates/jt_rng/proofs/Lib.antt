@@ -1,0 +1,5 @@
+mod Examples
+pub mod ForkLemmas
+pub mod GeneratorLemmas
+pub mod RangeLemmas
+pub mod StreamLemmas

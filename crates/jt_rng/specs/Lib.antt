@@ -1,0 +1,4 @@
+pub mod Generator
+pub mod Range
+pub mod Stream
+pub mod Words
