@@ -1,1 +1,16 @@
+pub mod Atomics
+pub mod ChannelLaws
+pub mod Channels
+pub mod Coming
 pub mod Entries
+pub mod Events
+pub mod Histories
+pub mod Lines
+pub mod LockLaws
+pub mod Locks
+pub mod Objects
+pub mod Replies
+pub mod Seats
+pub mod Semaphores
+pub mod TaskLaws
+pub mod Tasks
