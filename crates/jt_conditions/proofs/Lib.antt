@@ -1,0 +1,11 @@
+pub mod CompletionLaw
+pub mod EventLaw
+pub mod Asking
+pub mod SemaphoreLaw
+pub mod Holders
+pub mod LockLaw
+pub mod Keys
+pub mod Absent
+pub mod Counted
+pub mod ConditionLaw
+pub mod NotifyLaw

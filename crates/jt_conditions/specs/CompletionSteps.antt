@@ -1,0 +1,32 @@
+-- How a task's completion answers, by how far the task has come.
+use Rattle.jt_base.specs.declared.entry.Ask.{Ask}
+use Rattle.jt_base.specs.declared.entry.Ask.TheVariants.{Done, NotYet}
+use Rattle.jt_base.specs.declared.operation.Reply.TheVariants as reply
+use Rattle.jt_conditions.specs.declared.completion.Completion.{Completion}
+use Rattle.jt_conditions.specs.declared.completion.Completion.TheVariants.{Spawned, Running, Ended, Failed}
+
+abbrev pub begin_answer : Completion → Ask
+begin_answer Spawned = Done reply.Ok
+begin_answer s = NotYet
+
+abbrev pub begun : Completion → Completion
+begun Spawned = Running
+begun s = s
+
+abbrev pub running_answer : Completion → Ask
+running_answer Running = Done reply.Ok
+running_answer s = NotYet
+
+abbrev pub finished : Completion → Completion → Completion
+finished outcome Running = outcome
+finished outcome s = s
+
+abbrev pub fetch_answer : Completion → Ask
+fetch_answer (Ended value) = Done (reply.Val value)
+fetch_answer Failed = Done reply.Failed
+fetch_answer s = NotYet
+
+abbrev pub wait_answer : Completion → Ask
+wait_answer (Ended value) = Done reply.Ok
+wait_answer Failed = Done reply.Failed
+wait_answer s = NotYet

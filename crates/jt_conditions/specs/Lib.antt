@@ -1,0 +1,7 @@
+pub mod Completions
+pub mod CompletionSteps
+pub mod Events
+pub mod Semaphores
+pub mod Locks
+pub mod Absences
+pub mod Conditions

@@ -1,0 +1,73 @@
+//! Semaphores.
+
+ghost use Rattle.std.specs.Prelude.{◌≡◌, ℕ, List};
+ghost use Rattle.jt_base.specs.declared.name.Name.{Name};
+ghost use Rattle.jt_base.specs.declared.operation.Op.TheVariants.{NewSemaphore};
+ghost use Rattle.jt_laws.specs.Entries.{Object, object_of};
+ghost use Rattle.jt_laws.specs.Entries.Object.{Named};
+ghost use Rattle.jt_laws.specs.Objects.{Asked, MadeBy};
+ghost use Rattle.jt_conditions.specs.Semaphores.{Semaphore, semaphore_left_by, acquire_answer, after_acquire, release_answer, after_release};
+
+use jt_base::{Ask, Op, Reply};
+use std::marker::Model;
+
+/// A counting semaphore, which is held at most as often at a time as its count (Julia manual,
+/// `Base.Semaphore`).
+#[derive(Debug, Drop)]
+pub struct Sema {
+    count: u64,
+    held: u64,
+}
+
+impl Model for Sema {
+    ghost use Rattle.jt_conditions.specs.Semaphores.{Semaphore};
+
+    ghost Value = { Semaphore };
+
+    ghost view = { λ s. record { count = s.count; held = s.held } };
+}
+
+impl Sema {
+    /// A semaphore that can be held `n` times at a time, and isn't held.
+    pub fn new(n: u64) -> Sema
+        ensures { (name : Name) → MadeBy Semaphore semaphore_left_by (NewSemaphore name n) result }
+    {
+        Sema { count: n, held: 0 }
+    }
+
+    /// Answers an Acquire or a Release of this semaphore. `NotYet` exactly where the law of objects
+    /// allows no reply: at an Acquire while the semaphore is held as often as its count, and at an
+    /// operation on objects of other kinds. A Release of a semaphore that isn't held changes
+    /// nothing and is told so.
+    pub fn ask(&mut self, op: &Op) -> Ask
+        ensures law { (task : List ℕ) (name : Name) → object_of task op.now ≡ Named name → Asked Semaphore semaphore_left_by task op.now self.old result self.new }
+    {
+        match op {
+            Op::Acquire(_) => self.acquire(),
+            Op::Release(_) => self.release(),
+            _ => Ask::NotYet,
+        }
+    }
+
+    fn acquire(&mut self) -> Ask
+        ensures answer { result ≡ acquire_answer self.old }
+        ensures after { self.new ≡ after_acquire self.old }
+    {
+        if self.held >= self.count {
+            return Ask::NotYet;
+        }
+        self.held += 1;
+        Ask::Done(Reply::Ok)
+    }
+
+    fn release(&mut self) -> Ask
+        ensures answer { result ≡ release_answer self.old }
+        ensures after { self.new ≡ after_release self.old }
+    {
+        if self.held == 0 {
+            return Ask::Done(Reply::NotHeld);
+        }
+        self.held -= 1;
+        Ask::Done(Reply::Ok)
+    }
+}
