@@ -1,0 +1,11 @@
+pub mod Examples
+pub mod Members
+pub mod Ranges
+pub mod InOrder
+pub mod Without
+pub mod Served
+pub mod Turn
+pub mod Places
+pub mod Kept
+pub mod Effects
+pub mod Reached
