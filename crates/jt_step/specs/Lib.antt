@@ -1,0 +1,4 @@
+pub mod Meaning
+pub mod Next
+pub mod State
+pub mod Tasks
