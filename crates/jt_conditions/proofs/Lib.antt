@@ -9,3 +9,4 @@ pub mod Absent
 pub mod Counted
 pub mod ConditionLaw
 pub mod NotifyLaw
+pub mod EntryCounts

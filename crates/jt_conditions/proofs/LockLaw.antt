@@ -143,7 +143,7 @@ still : (own : List Entry) (e : Entry) → is_plain_lock own ≡ true → is_pla
 still [] e k = absurd (cc)
 still (x ∷ xs) e k = k
 
-found : (own : List Entry) (before : Option Holder) → lock_left_by own ≡ Some before → (is_plain_lock own ≡ true) × (holder_of own ≡ before)
+pub found : (own : List Entry) (before : Option Holder) → lock_left_by own ≡ Some before → (is_plain_lock own ≡ true) × (holder_of own ≡ before)
 found own before e =
     elim (is_plain_lock own) as (λ b. is_plain_lock own ≡ b → (if b then Some (holder_of own) else None) ≡ Some before → (is_plain_lock own ≡ true) × (holder_of own ≡ before)) [
       | true ↦ λ k g. (k, cc)

@@ -3,6 +3,7 @@
 #![tactic(auto)]
 
 mod absence;
+mod bounds;
 mod completion;
 mod condition;
 mod event;
@@ -11,6 +12,7 @@ mod semaphore;
 #[cfg(test)]
 mod tests;
 
+pub use bounds::{condition_counts_within_entries, lock_level_within_entries};
 pub use completion::Completion;
 pub use condition::CondLock;
 pub use event::Event;
