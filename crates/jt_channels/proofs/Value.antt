@@ -1,6 +1,6 @@
 -- An atomic number's answers are right after every lawful list that leaves its value.
-use Rattle.std.proofs.Common.{◌≡◌, ℕ, List, [], ◌∷◌, ◌++◌, Option, Some, None, Bool, true, false, refl, sym, ap, ◌∙◌, subst}
-use Rattle.std.specs.Prelude.{ℤ, ◌+ℤ◌, ◌-ℤ◌, if◌then◌else◌, option_map, option_and_then}
+use Rattle.std.proofs.Common.{◌≡◌, ℕ, List, [], ◌∷◌, ◌++◌, Option, Some, None, true, refl, sym, ap, ◌∙◌, subst}
+use Rattle.std.specs.Prelude.{ℤ, option_map, option_and_then}
 use Rattle.std.specs.Option.{option_or}
 use Rattle.std.proofs.lemmas.Bool.{false≢true}
 use Rattle.jt_base.specs.declared.operation.Op.{Op}
@@ -9,7 +9,7 @@ use Rattle.jt_base.specs.declared.operation.Reply.{Reply}
 use Rattle.jt_base.specs.declared.operation.Reply.TheVariants as reply
 use Rattle.jt_base.specs.declared.entry.Entry.{Entry}
 use Rattle.jt_base.specs.declared.entry.Ask.{Ask}
-use Rattle.jt_base.specs.declared.entry.Ask.TheVariants.{Done, NotYet}
+use Rattle.jt_base.specs.declared.entry.Ask.TheVariants.{Done}
 use Rattle.jt_laws.specs.Atomics.{written, last_written, opening_value, atomic_left_by, is_atomic_op}
 use Rattle.jt_laws.specs.Objects.{reply_after, answer_of, Asked}
 use Rattle.jt_channels.specs.Values.{value_after, value_reply_at}

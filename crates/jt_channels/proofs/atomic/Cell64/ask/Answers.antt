@@ -1,7 +1,5 @@
-use Rattle.std.proofs.Common.{◌≡◌, ap, sym, ◌∙◌, arith, rules}
+use Rattle.std.proofs.Common.{arith, rules}
 use Rattle.std.proofs.lemmas.Grind.{common_steps}
-use Rattle.jt_base.specs.declared.entry.Ask.TheVariants.{Done, NotYet}
-use Rattle.jt_channels.specs.Values.{value_after, value_reply_at}
 use Rattle.jt_channels.proofs.Value.{asked_by}
 use Rattle.jt_channels.proofs.atomic.Cell64.ask.Goals as goal
 
