@@ -1,0 +1,4 @@
+pub mod LexLemmas
+pub mod TokenLaws
+pub mod Whole
+pub mod Examples

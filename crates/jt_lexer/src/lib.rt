@@ -1,0 +1,18 @@
+//! From the text of a script to its tokens.
+#![tactic(auto)]
+
+mod error;
+mod lexer;
+mod number;
+mod piece;
+mod quoted;
+mod table;
+mod token;
+mod word;
+
+pub use error::LexError;
+pub use lexer::lex;
+pub use token::{Sign, Token, TokenKind};
+
+#[cfg(test)]
+mod tests;
