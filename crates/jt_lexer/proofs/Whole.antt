@@ -13,8 +13,10 @@ use Rattle.jt_lexer.specs.declared.piece.Shape.TheVariants as shape
 use Rattle.jt_lexer.specs.Words.{words, signs}
 use Rattle.jt_lexer.specs.Pieces.{Text, Piece, is_blank, comment_end, closed, comment, with_digit, number_from, is_escape, string_from, begins_word, whole_len, prefix_len, is_base_threads, lookup, reserved, named, word, first_sign, sign_at, piece}
 use Rattle.jt_lexer.specs.Lexer.{token, kind_of, tokens_of}
-use Rattle.jt_lexer.specs.Tokens.{Begins, IsTokensOf, IsNoStop, NoStop}
+use Rattle.jt_lexer.specs.Tokens.{Begins, IsTokensOf, IsNoStop, NoStop, IsWhole}
 use Rattle.jt_lexer.proofs.TokenLaws.{measured}
+use Rattle.jt_lexer.proofs.TokenLaws.{Found}
+use Rattle.std.proofs.lemmas.List.{drop_all}
 
 by_test : {A : Type 0} (P : A → Type 0) (c : Bool) (x y : A) → P x → P y → P (cond c x y)
 by_test P true x y f g = f
@@ -116,8 +118,13 @@ begun_stopless (p ∷ ps) at z ts end rest h =
 
 -- Tokens end with the end token, which stands nowhere else and at the text's length, and there are no more others than
 -- bytes.
-pub whole : (text : Text) (ts : List Token) → IsTokensOf text ts → (us : List Token) × (ts ≡ us ++ token (kind.Sign sign.Stop) (length text) ∷ []) × (length us ≤ length text) × NoStop us
+pub whole : (text : Text) (ts : List Token) → IsTokensOf text ts → IsWhole text ts
 whole text ts h =
     let m = measured h.0 0 text h.1 h.2 [] h.4 in
     let last : h.2 ≡ length text = omega (arith, m.0) in
     (h.1, h.3 ∙ ap (λ k. h.1 ++ token (kind.Sign sign.Stop) k ∷ []) last, omega (arith, m.1), begun_stopless h.0 0 text h.1 h.2 [] h.4)
+
+-- of what was found up to the text's end
+pub found_whole : (text bytes : Text) (at : ℕ) (ts new : List Token) → bytes ≡ text → Found at bytes ts → length bytes ≤ at → new ≡ ts ++ token (kind.Sign sign.Stop) at ∷ [] → IsWhole text new
+found_whole text bytes at ts new b h done e =
+    subst (λ y. IsWhole y new) b (whole bytes new (h.0, ts, at, e, subst (λ y. Begins h.0 0 bytes ts at y) (drop_all at bytes done) h.1))

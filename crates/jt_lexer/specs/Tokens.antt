@@ -38,3 +38,7 @@ IsNoStop k = Unit {0}
 abbrev pub NoStop : List Token → Type 0
 NoStop [] = Unit {0}
 NoStop (t ∷ ts) = IsNoStop t.kind × NoStop ts
+
+-- the tokens end with the end token, which stands at the text's length and nowhere else, and no more others than bytes come before it
+abbrev pub IsWhole : Text → List Token → Type 0
+IsWhole text ts = (us : List Token) × (ts ≡ us ++ token (kind.Sign sign.Stop) (length text) ∷ []) × (length us ≤ length text) × NoStop us

@@ -3,7 +3,7 @@
 ghost use Rattle.std.specs.Prelude.{◌≡◌, ◌<◌, ◌≤◌, ◌+◌, ◌^◌, ◌++◌, length, drop, IfOk, IfErr, OnOk};
 ghost use Rattle.jt_lexer.specs.Pieces as pieces;
 ghost use Rattle.jt_lexer.specs.Lexer as spec;
-ghost use Rattle.jt_lexer.specs.Tokens.{IsTokensOf, Refuses};
+ghost use Rattle.jt_lexer.specs.Tokens.{IsTokensOf, IsWhole, Refuses};
 
 use crate::error::LexError;
 use crate::piece::{Fault, Shape, piece};
@@ -72,6 +72,7 @@ pub fn lex(alloc: Global, text: &str) -> Result<Vec<Token>, LexError>
     requires { length text.now ≤ 1048576 }
     ensures value { spec.Gives (λ tokens. tokens.items) (spec.lex text.now) result }
     ensures tokens { IfOk result (λ tokens. IsTokensOf text.now tokens.items) }
+    ensures whole { IfOk result (λ tokens. IsWhole text.now tokens.items) }
     ensures refused { IfErr result (Refuses text.now) }
 {
     let bytes = text.as_bytes();
