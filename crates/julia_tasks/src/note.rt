@@ -9,10 +9,10 @@ use arrayvec::ArrayString;
 use itoa::Buffer;
 
 /// Room for the longest note.
-const LONGEST: usize = 96;
+pub const LONGEST_NOTE: usize = 96;
 
 /// The note of a status, empty for `Ok`. It takes no memory.
-pub fn note_text(status: &Status) -> ArrayString<LONGEST>
+pub fn note_text(status: &Status) -> ArrayString<LONGEST_NOTE>
     ensures { result.bytes ≡ note_of status.now }
 {
     let mut note = ArrayString::new();

@@ -15,10 +15,11 @@ ghost use Rattle.jt_syntax.specs.Tree.{TopTree};
 ghost use Rattle.julia_tasks.specs.Status.{note_of};
 ghost use Rattle.julia_tasks.specs.Tool.{IsRun, IsRunOf, Answers, WasRead, WroteNothing, ComesAfterReading, IsAccepted, most_script, default_seeds};
 
-use crate::note::note_text;
+use crate::note::{LONGEST_NOTE, note_text};
 use crate::reading::{ReadError, read_all};
 use crate::report::{Refusal, Report, Status};
 use crate::writing::write_all;
+use arrayvec::ArrayString;
 use jt_base::{Entry, Gate, OutOfMemory, Seeds, Sink, Source, Text};
 use jt_machine::{lines, run_plain};
 use jt_parser::{ParseError, parse};
@@ -154,6 +155,23 @@ pub fn tell<N: Sink>(notes: &mut N, status: &Status)
     let _written = write_all(notes, note.as_str().as_bytes());
 }
 
+/// Writes the note of a status, that of a write fault as it was made before the first write.
+fn tell_after_writing<N: Sink>(
+    notes: &mut N,
+    status: &Status,
+    write_fault: &ArrayString<LONGEST_NOTE>,
+)
+    requires { write_fault.now.bytes ≡ note_of WriteFault }
+    ensures { ¬ Rose (N.faults notes.old) (N.faults notes.new) → Appends (N.written notes.old) (N.written notes.new) (note_of status.now) }
+{
+    match status {
+        Status::WriteFault => {
+            let _written = write_all(notes, write_fault.as_str().as_bytes());
+        }
+        _ => tell(notes, status),
+    }
+}
+
 /// Does the command `run` with one worker: reads the script to the end of `source` or one byte past
 /// its most of 1,048,576, runs it, writes its lines to `out` and one line to `notes` for each
 /// status but `Ok`. All that is written is made before the first write, and writing takes no
@@ -183,8 +201,9 @@ pub fn plain_tool<S: Source, O: Sink, N: Sink>(
     ensures complete { IsRun (map string_bytes words.now) → ¬ Rose (S.faults source.old) (S.faults source.new) → ¬ Rose (O.faults out.old) (O.faults out.new)
         → IsAccepted (S.left source.old) → (result.status ≡ Ok) ⊎ (result.status ≡ NoMemory) }
 {
+    let write_fault = note_text(&Status::WriteFault);
     let report = answer(alloc, words, source, out);
-    tell(notes, &report.status);
+    tell_after_writing(notes, &report.status, &write_fault);
     report
 }
 
