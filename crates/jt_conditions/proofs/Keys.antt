@@ -1,6 +1,6 @@
 -- The map of the entries of a hash map with paths as keys.
-use Rattle.std.proofs.Common.{◌≡◌, ℕ, List, [], ◌∷◌, Some, None, Bool, refl, sym, ap, ◌∙◌, cond}
-use Rattle.std.specs.Prelude.{nat_eq}
+use Rattle.std.proofs.Common.{◌≡◌, ℕ, List, [], ◌∷◌, Some, None, Bool, true, false, refl, sym, ap, subst, ◌∙◌, cond}
+use Rattle.std.specs.Prelude.{nat_eq, IfSome}
 use Rattle.std.specs.Ordering.{nat_cmp, eq_by_cmp}
 use Rattle.std.specs.Map.{lookup}
 use Rattle.std.specs.FinMap as map
@@ -13,7 +13,7 @@ use Rattle.jt_conditions.proofs.Holders.{pointwise_same}
 abbrev pub by_path : List ℕ → List ℕ → Bool
 by_path p q = pointwise nat_eq p q
 
-found : {X : Type 0} (q : List ℕ) (es : List (List ℕ × X)) → find (slice_cmp nat_cmp) q es ≡ lookup (by_path q) es
+pub found : {X : Type 0} (q : List ℕ) (es : List (List ℕ × X)) → find (slice_cmp nat_cmp) q es ≡ lookup (by_path q) es
 found q [] = refl
 found q (e ∷ es) =
     ap (λ o. cond (eq_by_cmp (slice_cmp nat_cmp) q e.0) (Some e.1) o) (found q es) ∙ ap (λ b. cond b (Some e.1) (lookup (by_path q) es)) (sym (texts_ties q e.0))
@@ -50,3 +50,18 @@ get_put m k v q =
 pub get_less : {X : Type 0} (m : FinMap (slice_cmp nat_cmp) X) (k q : List ℕ) → map.get (map.remove m k) q ≡ cond (same_path k q) None (map.get m q)
 get_less m k q =
     get-remove nat_list_cmp_total m k q ∙ ap (λ b. cond b None (map.get m q)) (sym (turned k q) ∙ pointwise_same k q)
+
+-- what holds of all that is there holds after an insert of another such value, and after a removal
+pub all_inserted : {X : Type 0} (P : X → Type 0) (old new : List (List ℕ × X)) (k : List ℕ) (v : X) → ((q : List ℕ) → lookup (by_path q) new ≡ cond (by_path k q) (Some v) (lookup (by_path q) old)) → ((q : List ℕ) → IfSome (lookup (by_path q) old) P) → P v → (q : List ℕ) → IfSome (lookup (by_path q) new) P
+all_inserted P old new k v f all here q =
+    subst (λ o. IfSome o P) (sym (f q)) (elim (by_path k q) as (λ b. IfSome (cond b (Some v) (lookup (by_path q) old)) P) [
+      | true ↦ here
+      | false ↦ all q
+    ])
+
+pub all_removed : {X : Type 0} (P : X → Type 0) (old new : List (List ℕ × X)) (k : List ℕ) → ((q : List ℕ) → lookup (by_path q) new ≡ cond (by_path k q) None (lookup (by_path q) old)) → ((q : List ℕ) → IfSome (lookup (by_path q) old) P) → (q : List ℕ) → IfSome (lookup (by_path q) new) P
+all_removed P old new k f all q =
+    subst (λ o. IfSome o P) (sym (f q)) (elim (by_path k q) as (λ b. IfSome (cond b None (lookup (by_path q) old)) P) [
+      | true ↦ tt
+      | false ↦ all q
+    ])

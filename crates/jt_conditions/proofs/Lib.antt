@@ -5,6 +5,7 @@ pub mod SemaphoreLaw
 pub mod Holders
 pub mod LockLaw
 pub mod Keys
+pub mod Seen
 pub mod Absent
 pub mod Counted
 pub mod ConditionLaw

@@ -1,6 +1,6 @@
 -- A condition answers a notify, and the return of a task that was notified, by its law.
 use Rattle.std.proofs.Common.{◌≡◌, ℕ, suc, ◌+◌, ◌-◌, ◌<◌, ◌≤◌, List, [], ◌∷◌, ◌++◌, length, take, drop, Option, Some, None, Bool, true, false, refl, sym, ap, subst, ◌∙◌, cond, arith}
-use Rattle.std.specs.Prelude.{◌&&◌, pos, nat_lt, nat_le, filter, fold, if◌then◌else◌}
+use Rattle.std.specs.Prelude.{◌&&◌, pos, min, nat_lt, nat_le, filter, fold, option_map, if◌then◌else◌}
 use Rattle.std.specs.FinMap as finite
 use Rattle.std.proofs.lemmas.Bool.Decides.{nat_tests}
 use Rattle.jt_base.specs.declared.operation.Op.TheVariants.{CBack, CNotify}
@@ -15,16 +15,17 @@ use Rattle.jt_laws.specs.Locks.{levels_by, levels_after, levels_of, waits_of, ba
 use Rattle.jt_laws.specs.Objects.{IsLawful, answer_of, Asked}
 use Rattle.jt_laws.proofs.Paths.{same_itself, same_equal}
 use Rattle.jt_conditions.specs.declared.absence.Absence.{Absence}
-use Rattle.jt_conditions.specs.Absences.{AbsentTasks}
+use Rattle.jt_conditions.specs.Absences.{AbsentTasks, wholly_notified}
 use Rattle.jt_conditions.specs.Locks.{Holder, holder_of, reply_to}
 use Rattle.jt_conditions.specs.Conditions as c
-use Rattle.jt_conditions.specs.Conditions.{Condition, condition_of, condition_left_by, absences, notified_once, put_notified, with_notified, how_many, woken, notify_answer, after_notify, one_less_wait, back_by, back_answer, back, back_with, after_back}
+use Rattle.jt_conditions.specs.Conditions.{Condition, condition_of, condition_left_by, absences, notified_once, put_notified, with_notified, all_notified, how_many, woken, notify_answer, after_notify, one_less_wait, back_by, back_answer, back, back_with, after_back}
 use Rattle.jt_conditions.proofs.Absent.{kept, kept_of, get_absences, absences_are}
 use Rattle.jt_conditions.proofs.ConditionLaw.{found, left, kept_as, kept_some, kept_none, absence_is, unmoved, holder_answers}
 use Rattle.jt_laws.proofs.Notified.{was_notified}
 use Rattle.jt_conditions.proofs.Counted.{counted, given_reply, when_kind}
 use Rattle.jt_conditions.proofs.Holders.{IsProper, Levelled, levelled, proper, holder_after, free_none, not_free}
 use Rattle.jt_conditions.proofs.Keys.{get_put, get_less}
+use Rattle.jt_conditions.proofs.Seen.{get_notified}
 use Rattle.jt_laws.proofs.Waits.{waits_not, backs_more, backs_other, backs_not, before_of, before_same, waiting_push, places_in, places_split}
 
 -- a task of which nothing is kept stays so, whoever is notified
@@ -100,13 +101,43 @@ refused : (own : List Entry) (e : Entry) (n : Name) (all : Bool) (r : Reply) →
 refused own e n all r l k q is w =
     unmoved own e l k (ap (λ o. is_wait o e.reply) q) (ap is_back q) (notify_list own e n all q ∙ ap (λ v. without_first v (waiting_of own)) (sym is) ∙ w) (λ v. ap (λ o. levels_by o v e.reply) q)
 
+drop_one : (waiting : List (List ℕ)) → drop (min 1 (length waiting)) waiting ≡ drop 1 waiting
+drop_one [] = refl
+drop_one (w ∷ ws) =
+    let one : min 1 (suc (length ws)) ≡ 1 = omega arith in
+    ap (λ m. drop m (w ∷ ws)) one
+
+drop_all : (waiting : List (List ℕ)) → drop (length waiting) waiting ≡ []
+drop_all [] = refl
+drop_all (w ∷ ws) = drop_all ws
+
+-- a notify of all notifies each wait
+wholly_kept : (l w k p : ℕ) → option_map wholly_notified (kept l w k p) ≡ kept l w k 0
+wholly_kept l w k p =
+    elim (nat_lt 0 (w - k)) as (λ b. option_map wholly_notified (if b then Some (record { level = l; waits = w - k; notified = w - k - p }) else None) ≡ (if b then Some (record { level = l; waits = w - k; notified = w - k - 0 }) else None)) [
+      | true ↦ absence_is l (w - k) (w - k) l (w - k) (w - k - 0) refl (omega arith) refl
+      | false ↦ refl
+    ]
+
+all_absences : (own : List Entry) (e : Entry) (n : Name) (all : Bool) → e.op ≡ CNotify n all → waiting_of (own ++ e ∷ []) ≡ [] → absences (own ++ e ∷ []) ≡ all_notified (absences own)
+all_absences own e n all q ws =
+    absences_are (own ++ e ∷ []) (all_notified (absences own)) (λ r.
+    get_notified (absences own) r ∙ ap (option_map wholly_notified) (get_absences own r) ∙ wholly_kept (before_of r own) (waits_of r own) (backs_of r own) (places_of r own)
+    ∙ sym (kept_as r (own ++ e ∷ []) (before_of r own) (waits_of r own) (backs_of r own) 0 (before_same r own e (λ v. ap (λ o. (levels_by o v e.reply).before_wait) q)) (waits_not r own e (ap (λ o. is_wait o e.reply) q)) (backs_not r own e (ap is_back q)) (ap (places_in r) ws)))
+
+notify_moves : (own : List Entry) (e : Entry) (n : Name) (all : Bool) → IsLawful own → is_condition own ≡ true → e.op ≡ CNotify n all → reply.Int (pos (how_many all (waiting_of own))) ≡ e.reply → condition_left_by (own ++ e ∷ []) ≡ Some (woken all (condition_of own))
+notify_moves own e n true l k q g =
+    let ws : waiting_of (own ++ e ∷ []) ≡ [] = notify_list own e n true q ∙ ap (λ v. without_first v (waiting_of own)) (sym g) ∙ drop_all (waiting_of own) in
+    left own e (woken true (condition_of own)) k (notify_holder own e n true l q) ws (all_absences own e n true q ws)
+notify_moves own e n false l k q g =
+    let ws : waiting_of (own ++ e ∷ []) ≡ drop 1 (waiting_of own) = notify_list own e n false q ∙ ap (λ v. without_first v (waiting_of own)) (sym g) ∙ drop_one (waiting_of own) in
+    left own e (woken false (condition_of own)) k (notify_holder own e n false l q) ws (notify_absences own e n false 1 l q ws)
+
 notify_by : (own : List Entry) (e : Entry) (n : Name) (all : Bool) (holder : Option Holder) → IsLawful own → is_condition own ≡ true → e.op ≡ CNotify n all → reply_to holder e.task (reply.Int (pos (how_many all (waiting_of own)))) ≡ e.reply → condition_left_by (own ++ e ∷ []) ≡ Some (c.woken_by (condition_of own) holder e.task all)
 notify_by own e n all None l k q r = refused own e n all reply.NotLocked l k q r refl
 notify_by own e n all (Some h) l k q r =
-    elim (same_path h.task e.task) as (λ b. (if b then reply.Int (pos (how_many all (waiting_of own))) else reply.NotOwner) ≡ e.reply → condition_left_by (own ++ e ∷ []) ≡ Some (if b then woken (condition_of own) (how_many all (waiting_of own)) else condition_of own)) [
-      | true ↦ λ g.
-          let ws : waiting_of (own ++ e ∷ []) ≡ drop (how_many all (waiting_of own)) (waiting_of own) = notify_list own e n all q ∙ ap (λ v. without_first v (waiting_of own)) (sym g) in
-          left own e (woken (condition_of own) (how_many all (waiting_of own))) k (notify_holder own e n all l q) ws (notify_absences own e n all (how_many all (waiting_of own)) l q ws)
+    elim (same_path h.task e.task) as (λ b. (if b then reply.Int (pos (how_many all (waiting_of own))) else reply.NotOwner) ≡ e.reply → condition_left_by (own ++ e ∷ []) ≡ Some (if b then woken all (condition_of own) else condition_of own)) [
+      | true ↦ λ g. notify_moves own e n all l k q g
       | false ↦ λ g. refused own e n all reply.NotOwner l k q g refl
     ] r
 

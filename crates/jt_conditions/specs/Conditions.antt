@@ -9,7 +9,7 @@ use Rattle.jt_base.specs.declared.entry.Ask.TheVariants.{Done, NotYet}
 use Rattle.jt_laws.specs.Entries.{same_path}
 use Rattle.jt_laws.specs.Locks.{levels_of, waits_of, backs_of, places_of, waiting_of, is_condition}
 use Rattle.jt_conditions.specs.declared.absence.Absence.{Absence}
-use Rattle.jt_conditions.specs.Absences.{AbsentTasks, absent_code}
+use Rattle.jt_conditions.specs.Absences.{AbsentTasks, absent_code, wholly_notified}
 use Rattle.jt_conditions.specs.Locks.{Holder, holder_of, reply_to}
 
 -- who holds the lock, who waits, and what is kept of the tasks that aren't back
@@ -96,11 +96,16 @@ abbrev pub how_many : Bool → List (List ℕ) → ℕ
 how_many true waiting = length waiting
 how_many false waiting = min 1 (length waiting)
 
-abbrev pub woken : Condition → ℕ → Condition
-woken c n = record {
+-- a notify of all notifies every wait
+abbrev pub all_notified : AbsentTasks → AbsentTasks
+all_notified absent = finite.from_entries (map (λ e. (e.0, wholly_notified e.1)) (finite.entries absent))
+
+abbrev pub woken : Bool → Condition → Condition
+woken true c = record { holder = c.holder; waiting = []; absent = all_notified c.absent }
+woken false c = record {
   holder = c.holder;
-  waiting = drop n c.waiting;
-  absent = fold with_notified c.absent (take n c.waiting);
+  waiting = drop 1 c.waiting;
+  absent = fold with_notified c.absent (take 1 c.waiting);
 }
 
 abbrev pub notify_answer : Condition → List ℕ → Bool → Ask
@@ -108,7 +113,7 @@ notify_answer c task all = Done (reply_to c.holder task (reply.Int (pos (how_man
 
 abbrev pub woken_by : Condition → Option Holder → List ℕ → Bool → Condition
 woken_by c None task all = c
-woken_by c (Some h) task all = if same_path h.task task then woken c (how_many all c.waiting) else c
+woken_by c (Some h) task all = if same_path h.task task then woken all c else c
 
 abbrev pub after_notify : Condition → List ℕ → Bool → Condition
 after_notify c task all = woken_by c c.holder task all

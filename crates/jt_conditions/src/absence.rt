@@ -1,11 +1,16 @@
-//! The tasks that gave a condition's lock up and are not back, by path.
+//! The tasks that gave a condition's lock up and are not back, by path. To notify all of them at once
+//! takes no longer than to notify one: the waits are numbered, and a number says up to which of them
+//! all were notified.
 
-ghost use Rattle.std.specs.Prelude.{◌≡◌, ◌<◌, ◌≤◌, ◌+◌, ◌^◌, Some, None, OnOk};
+ghost use Rattle.std.specs.Prelude.{◌≡◌, ◌<◌, ◌≤◌, ◌+◌, ◌^◌, ℕ, List, Some, None, OnOk, cond, nat_eq};
+ghost use Rattle.std.specs.Cmp.Lexicographic.{pointwise};
 ghost use Rattle.std.specs.FinMap as map;
+ghost use Rattle.indexmap.specs.IndexMap.{spare};
+ghost use Rattle.jt_conditions.specs.Absences.{kept_at};
 
+use indexmap::IndexMap;
 use jt_base::{OutOfMemory, Path};
 use std::alloc::Global;
-use std::collections::HashMap;
 use std::hash::{Hash, Hasher};
 use std::marker::Model;
 
@@ -22,6 +27,7 @@ pub struct Absence {
 
 impl Absence {
     ghost use Rattle.jt_conditions.specs.Conditions.{one_more_wait, notified_once};
+    ghost use Rattle.jt_conditions.specs.Absences.{wholly_notified};
 
     /// That of a task that waits once more, and gave up this level.
     pub(crate) fn one_more_wait(before: Option<Absence>, level: u64) -> Absence
@@ -42,6 +48,16 @@ impl Absence {
         }
     }
 
+    /// That of a task of which all waits were notified.
+    fn wholly_notified(self) -> Absence
+        ensures { result ≡ wholly_notified self }
+    {
+        Absence {
+            notified: self.waits,
+            ..self
+        }
+    }
+
     /// That of a task of which one more wait is notified.
     fn notified_once(self) -> Absence
         ensures { result ≡ notified_once self }
@@ -57,7 +73,7 @@ impl Absence {
     }
 }
 
-/// A path as the key of a hash map.
+/// A path as a key.
 #[derive(Debug, Drop)]
 struct TaskKey {
     path: Path,
@@ -105,43 +121,80 @@ impl Hash for TaskKey {
     }
 }
 
-/// A map from paths to absences, with room that is reserved beforehand.
+/// An absence as it is stored.
+#[derive(Clone, Copy, Debug)]
+struct Kept {
+    absence: Absence,
+    /// The number of the task's last wait, from 1 on, of those made since no task was away.
+    last: u64,
+}
+
+impl Kept {
+    ghost use Rattle.jt_conditions.specs.Absences.{seen};
+
+    /// The absence, where all waits up to this number were notified at once.
+    fn seen(self, woken: u64) -> Absence
+        ensures { result ≡ seen woken self }
+    {
+        if self.last <= woken {
+            self.absence.wholly_notified()
+        } else {
+            self.absence
+        }
+    }
+}
+
+/// The most waits that are made before no task is away again.
+const MOST_WAITS: u64 = 1 << 32;
+
+/// The tasks that are away, with room that is reserved beforehand.
 #[derive(Debug, Drop)]
 pub(crate) struct Absences {
-    tasks: HashMap<TaskKey, Absence>,
+    tasks: IndexMap<TaskKey, Kept>,
+    /// How many waits were made since no task was away.
+    made: u64,
+    /// Up to which of these waits all were notified at once.
+    woken: u64,
 }
 
 impl Model for Absences {
-    ghost use Rattle.std.specs.FinMap.{from_entries};
-    ghost use Rattle.std.specs.HashMap.{spare};
+    ghost use Rattle.std.specs.Prelude.{◌≤◌, ◌-◌, ◌^◌, min, ℕ, List, IfSome};
+    ghost use Rattle.indexmap.specs.IndexMap.{spare};
     ghost use Rattle.jt_laws.specs.Objects.{WithRoom};
-    ghost use Rattle.jt_conditions.specs.Absences.{AbsentTasks, absent_code, with_room_code};
+    ghost use Rattle.jt_conditions.specs.Absences.{AbsentTasks, absent_code, with_room_code, kept_at, away, Numbered};
 
     ghost Value = { WithRoom AbsentTasks };
 
     ghost coded = { with_room_code absent_code };
 
-    ghost view = { λ a. record { state = from_entries a.tasks.entries; room = spare a.tasks } };
+    ghost view = { λ a. record { state = away a.woken a.tasks.entries; room = min (spare a.tasks) (2 ^ 32 - a.made) } };
+
+    ghost invariant = { λ a. (a.woken ≤ a.made) × ((a.made ≤ 2 ^ 32) × ((q : List ℕ) → IfSome (kept_at a.tasks.entries q) (Numbered a.made))) };
 }
 
 impl Absences {
-    ghost use Rattle.jt_conditions.specs.Conditions.{with_notified, one_less_wait};
+    ghost use Rattle.jt_conditions.specs.Conditions.{one_more_wait, with_notified, all_notified, one_less_wait};
 
-    /// An empty map. It takes no memory yet.
+    /// No task is away. It takes no memory yet.
     pub(crate) fn new(alloc: Global) -> Absences
         ensures { result.state ≡ map.empty }
     {
         Absences {
-            tasks: HashMap::new(alloc),
+            tasks: IndexMap::new(alloc),
+            made: 0,
+            woken: 0,
         }
     }
 
-    /// Makes room for one more task.
+    /// Makes room for one more wait.
     pub(crate) fn reserve(&mut self) -> Result<(), OutOfMemory>
         ensures state { self.new.state ≡ self.old.state }
         ensures kept { self.old.room ≤ self.new.room }
         ensures room { OnOk result (0 < self.new.room) }
     {
+        if self.made >= MOST_WAITS {
+            return Err(OutOfMemory);
+        }
         self.tasks.reserve(1)?;
         Ok(())
     }
@@ -150,39 +203,38 @@ impl Absences {
     pub(crate) fn get(&self, task: &Path) -> Option<Absence>
         ensures { result ≡ map.get self.now.state task.now }
     {
-        let key = TaskKey { path: task.copy() };
-        self.tasks.get(&key).copied()
-    }
-
-    /// Keeps this of the task. Only a task of which nothing was kept needs room.
-    pub(crate) fn put(&mut self, task: &Path, absence: Absence)
-        requires { map.get self.old.state task.now ≡ None → 0 < self.old.room }
-        ensures state { self.new.state ≡ map.insert self.old.state task.now absence }
-        ensures room { self.old.room ≤ self.new.room + 1 }
-    {
-        let key = TaskKey { path: task.copy() };
-        match self.tasks.insert(key, absence) {
-            Ok(_) => {}
-            Err(_) => unreachable!(),
+        match find(&self.tasks, task) {
+            Some(kept) => Some(kept.seen(self.woken)),
+            None => None,
         }
     }
 
-    /// Keeps nothing of the task any more.
-    pub(crate) fn remove(&mut self, task: &Path)
-        ensures state { self.new.state ≡ map.remove self.old.state task.now }
-        ensures room { self.old.room ≤ self.new.room }
+    /// Keeps one more wait of the task, which gave up this level.
+    pub(crate) fn wait(&mut self, task: &Path, level: u64)
+        requires { 0 < self.old.room }
+        ensures { self.new.state ≡ map.insert self.old.state task.now (one_more_wait (map.get self.old.state task.now) level) }
     {
-        let key = TaskKey { path: task.copy() };
-        self.tasks.remove(&key);
+        let absence = Absence::one_more_wait(self.get(task), level);
+        self.made += 1;
+        let last = self.made;
+        put(&mut self.tasks, task, Kept { absence, last });
     }
 
     /// Notifies one wait of the task.
     pub(crate) fn notify(&mut self, task: &Path)
         ensures { self.new.state ≡ with_notified self.old.state task.now }
     {
-        if let Some(absence) = self.get(task) {
-            self.put(task, absence.notified_once());
+        if let Some(kept) = find(&self.tasks, task) {
+            let absence = kept.seen(self.woken).notified_once();
+            put(&mut self.tasks, task, Kept { absence, ..kept });
         }
+    }
+
+    /// Notifies all waits.
+    pub(crate) fn notify_all(&mut self)
+        ensures { self.new.state ≡ all_notified self.old.state }
+    {
+        self.woken = self.made;
     }
 
     /// Takes away one notified wait of the task, of which this is kept.
@@ -193,15 +245,47 @@ impl Absences {
     {
         if absence.waits <= 1 {
             self.remove(task);
-        } else {
-            self.put(
-                task,
-                Absence {
-                    level: absence.level,
-                    waits: absence.waits - 1,
-                    notified: absence.notified - 1,
-                },
-            );
+            return;
         }
+        if let Some(kept) = find(&self.tasks, task) {
+            let absence = Absence {
+                level: absence.level,
+                waits: absence.waits - 1,
+                notified: absence.notified - 1,
+            };
+            put(&mut self.tasks, task, Kept { absence, ..kept });
+        }
+    }
+
+    /// Keeps nothing of the task any more.
+    fn remove(&mut self, task: &Path)
+        ensures { self.new.state ≡ map.remove self.old.state task.now }
+    {
+        let key = TaskKey { path: task.copy() };
+        self.tasks.swap_remove(&key);
+        if self.tasks.is_empty() {
+            self.made = 0;
+            self.woken = 0;
+        }
+    }
+}
+
+/// What is stored of the task.
+fn find(tasks: &IndexMap<TaskKey, Kept>, task: &Path) -> Option<Kept>
+    ensures { result ≡ kept_at tasks.now.entries task.now }
+{
+    let key = TaskKey { path: task.copy() };
+    tasks.get(&key).copied()
+}
+
+/// Stores this of the task. Only a task of which nothing was stored needs room.
+fn put(tasks: &mut IndexMap<TaskKey, Kept>, task: &Path, kept: Kept)
+    requires { kept_at tasks.old.entries task.now ≡ None → 0 < spare tasks.old }
+    ensures { (q : List ℕ) → kept_at tasks.new.entries q ≡ cond (pointwise nat_eq task.now q) (Some kept) (kept_at tasks.old.entries q) }
+{
+    let key = TaskKey { path: task.copy() };
+    match tasks.insert(key, kept) {
+        Ok(_) => {}
+        Err(_) => unreachable!(),
     }
 }

@@ -1,6 +1,6 @@
 //! Conditions.
 
-ghost use Rattle.std.specs.Prelude.{◌≡◌, ◌+◌, ◌^◌, ◌<◌, ◌≤◌, ℕ, List, pos, length, take, drop, fold, OnOk};
+ghost use Rattle.std.specs.Prelude.{◌≡◌, ◌^◌, ◌<◌, ◌≤◌, ℕ, List, true, false, OnOk};
 ghost use Rattle.jt_base.specs.declared.entry.Ask.TheVariants.{Done, NotYet};
 ghost use Rattle.jt_base.specs.declared.name.Name.{Name};
 ghost use Rattle.jt_base.specs.declared.operation.Op.TheVariants.{NewCondition, Lock as Locks, CWait};
@@ -9,17 +9,14 @@ ghost use Rattle.jt_laws.specs.Entries.{Object, object_of};
 ghost use Rattle.jt_laws.specs.Entries.Object.{Named};
 ghost use Rattle.jt_laws.specs.Objects.{Asked, MadeBy};
 ghost use Rattle.jt_conditions.specs.Locks.{level_in, reply_to};
-ghost use Rattle.jt_conditions.specs.Conditions.{Condition, condition_left_by, waits_in, after_wait, how_many, with_notified, notify_answer, after_notify, back_answer, after_back};
+ghost use Rattle.jt_conditions.specs.Conditions.{Condition, condition_left_by, after_wait, how_many, woken, notify_answer, after_notify, back_answer, after_back};
 
-use crate::absence::{Absence, Absences};
+use crate::absence::Absences;
 use crate::lock::Lock;
+use crate::waiting_list::WaitingList;
 use jt_base::{Ask, Op, OutOfMemory, Path, Reply};
 use std::alloc::Global;
-use std::collections::VecDeque;
 use std::marker::Model;
-
-/// The most tasks for which there is ever room in a waiting list.
-const MOST_WAITING: usize = 1 << 32;
 
 /// A condition: a lock with a list of tasks that gave it up and wait to be notified (Julia manual,
 /// `Threads.Condition`). Contracts see who holds the lock, who waits, and what the tasks that are
@@ -28,14 +25,13 @@ const MOST_WAITING: usize = 1 << 32;
 pub struct CondLock {
     lock: Lock,
     /// The tasks that wait, the oldest first.
-    waiting: VecDeque<Path>,
+    waiting: WaitingList,
     /// Those tasks and the ones that were notified, until they are back.
     absent: Absences,
 }
 
 impl Model for CondLock {
-    ghost use Rattle.std.specs.Prelude.{◌≤◌, ◌-◌, ◌^◌, length, min};
-    ghost use Rattle.std.specs.VecDeque.{deque_len, deque_capacity};
+    ghost use Rattle.std.specs.Prelude.{min};
     ghost use Rattle.jt_laws.specs.Objects.{WithRoom};
     ghost use Rattle.jt_conditions.specs.Absences.{with_room_code};
     ghost use Rattle.jt_conditions.specs.Conditions.{Condition, condition_code};
@@ -44,9 +40,7 @@ impl Model for CondLock {
 
     ghost coded = { with_room_code condition_code };
 
-    ghost view = { λ c. record { state = record { holder = c.lock; waiting = c.waiting.items; absent = c.absent.state }; room = min (min (deque_capacity c.waiting - deque_len c.waiting) c.absent.room) (2 ^ 32 - length c.waiting.items) } };
-
-    ghost invariant = { λ c. length c.waiting.items ≤ 2 ^ 32 };
+    ghost view = { λ c. record { state = record { holder = c.lock; waiting = c.waiting.state; absent = c.absent.state }; room = min c.waiting.room c.absent.room } };
 }
 
 impl CondLock {
@@ -56,22 +50,20 @@ impl CondLock {
     {
         CondLock {
             lock: Lock::new(),
-            waiting: VecDeque::new(alloc),
+            waiting: WaitingList::new(alloc),
             absent: Absences::new(alloc),
         }
     }
 
-    /// Makes room for one CWait. After `OutOfMemory` the condition is as before.
+    /// Makes room for one CWait. `OutOfMemory` also where 2^32 tasks wait, or where 2^32 waits were
+    /// made since all tasks were back. After it the condition is as before.
     pub fn reserve(&mut self) -> Result<(), OutOfMemory>
         ensures state { self.new.state ≡ self.old.state }
         ensures kept { self.old.room ≤ self.new.room }
         ensures room { OnOk result (0 < self.new.room) }
     {
-        if self.waiting.len() >= MOST_WAITING {
-            return Err(OutOfMemory);
-        }
         self.absent.reserve()?;
-        self.waiting.reserve(1)?;
+        self.waiting.reserve()?;
         Ok(())
     }
 
@@ -83,7 +75,6 @@ impl CondLock {
     pub fn ask(&mut self, task: &Path, op: &Op) -> Ask
         requires levels { (name : Name) → op.now ≡ Locks name → level_in self.old.state.holder task.now < 2 ^ 32 }
         requires reserved { (name : Name) → op.now ≡ CWait name → 0 < self.old.room }
-        requires waits { (name : Name) → op.now ≡ CWait name → waits_in self.old.state.absent task.now < 2 ^ 32 }
         ensures law { (name : Name) → object_of task.now op.now ≡ Named name → Asked Condition condition_left_by task.now op.now self.old.state result self.new.state }
         ensures not_yet { result ≡ NotYet → self.new ≡ self.old }
     {
@@ -100,7 +91,6 @@ impl CondLock {
     /// Gives the lock up, and joins the waiting list.
     fn wait(&mut self, task: &Path) -> Ask
         requires reserved { 0 < self.old.room }
-        requires waits { waits_in self.old.state.absent task.now < 2 ^ 32 }
         ensures answer { result ≡ Done (reply_to self.old.state.holder task.now reply.Ok) }
         ensures after { self.new.state ≡ after_wait self.old.state task.now }
     {
@@ -108,9 +98,8 @@ impl CondLock {
             Ok(level) => level,
             Err(reply) => return Ask::Done(reply),
         };
-        let absence = Absence::one_more_wait(self.absent.get(task), level);
-        self.absent.put(task, absence);
-        self.waiting.push_back_reserved(task.copy());
+        self.absent.wait(task, level);
+        self.waiting.join(task.copy());
         self.lock.release();
         Ask::Done(Reply::Ok)
     }
@@ -141,10 +130,39 @@ impl CondLock {
         if let Err(reply) = self.lock.level_of(task) {
             return Ask::Done(reply);
         }
-        let waiting = self.waiting.len();
-        let count = if all { waiting } else { waiting.min(1) };
-        wake(&mut self.waiting, &mut self.absent, count);
+        let count = if all {
+            self.notify_all()
+        } else {
+            self.notify_one()
+        };
         Ask::Done(Reply::Int(count as i64))
+    }
+
+    /// Takes all tasks from the waiting list, and gives their number.
+    fn notify_all(&mut self) -> usize
+        ensures count { result ≡ how_many true self.old.state.waiting }
+        ensures most { result ≤ 2 ^ 32 }
+        ensures after { self.new.state ≡ woken true self.old.state }
+    {
+        let count = self.waiting.len();
+        self.absent.notify_all();
+        self.waiting.leave(count);
+        count
+    }
+
+    /// Takes the oldest task from the waiting list, if there is one, and gives the number of tasks
+    /// taken.
+    fn notify_one(&mut self) -> usize
+        ensures count { result ≡ how_many false self.old.state.waiting }
+        ensures most { result ≤ 1 }
+        ensures after { self.new.state ≡ woken false self.old.state }
+    {
+        match self.waiting.first() {
+            Some(task) => self.absent.notify(task),
+            None => return 0,
+        }
+        self.waiting.leave(1);
+        1
     }
 }
 
@@ -155,28 +173,5 @@ impl CondLock {
         ensures { result ≡ level_in self.now.state.holder task.now }
     {
         self.lock.level(task)
-    }
-
-    /// From how many waits a task is not back.
-    pub(crate) fn waits(&self, task: &Path) -> u64
-        ensures { result ≡ waits_in self.now.state.absent task.now }
-    {
-        match self.absent.get(task) {
-            Some(absence) => absence.waits,
-            None => 0,
-        }
-    }
-}
-
-/// Notifies the first `count` tasks that wait.
-fn wake(waiting: &mut VecDeque<Path>, absent: &mut Absences, count: usize)
-    requires { count ≤ length waiting.old.items }
-    ensures waiting { waiting.new.items ≡ drop count waiting.old.items }
-    ensures absent { absent.new.state ≡ fold with_notified absent.old.state (take count waiting.old.items) }
-{
-    for _woken in 0..count {
-        if let Some(task) = waiting.pop_front() {
-            absent.notify(&task);
-        }
     }
 }

@@ -97,7 +97,7 @@ fn answer_of(want: Want) -> Ask {
     })
 }
 
-// The answer to a task's operation. The levels and waits in these sequences are few.
+// The answer to a task's operation. The levels in these sequences are low.
 fn ask(rt: &impl Abort, object: &mut Object, task: &Path, op: &Op) -> Result<Ask, Fail> {
     Ok(match object {
         Object::Task(completion) => completion.ask(op),
@@ -110,7 +110,6 @@ fn ask(rt: &impl Abort, object: &mut Object, task: &Path, op: &Op) -> Result<Ask
         Object::Condition(condition) => {
             condition.reserve()?;
             assert!(rt; condition.level(task) < 10);
-            assert!(rt; condition.waits(task) < 10);
             condition.ask(task, op)
         }
     })
@@ -279,6 +278,37 @@ fn locks_and_conditions_answer(rt: HostRuntime) -> Result<(), Fail> {
             (2, Call::CBack, Want::Ok),
             (2, Call::CNotify(false), Want::Int(0)),
             (2, Call::EWait, Want::NotYet),
+        ],
+    )
+}
+
+#[test]
+fn later_waits_are_not_notified(rt: HostRuntime) -> Result<(), Fail> {
+    // A notify of all wakes tasks 1 and 2. The main task and task 2 wait later, and stay.
+    play(
+        &rt,
+        Object::Condition(CondLock::new(rt.alloc())),
+        &[
+            (1, Call::Lock, Want::Ok),
+            (1, Call::CWait, Want::Ok),
+            (2, Call::Lock, Want::Ok),
+            (2, Call::CWait, Want::Ok),
+            (0, Call::Lock, Want::Ok),
+            (0, Call::CNotify(true), Want::Int(2)),
+            (0, Call::CWait, Want::Ok),
+            (2, Call::CBack, Want::Ok),
+            (2, Call::CWait, Want::Ok),
+            (2, Call::CBack, Want::NotYet),
+            (0, Call::CBack, Want::NotYet),
+            (1, Call::CBack, Want::Ok),
+            (1, Call::CNotify(false), Want::Int(1)),
+            (1, Call::Unlock, Want::Ok),
+            (2, Call::CBack, Want::NotYet),
+            (0, Call::CBack, Want::Ok),
+            (0, Call::CNotify(true), Want::Int(1)),
+            (0, Call::Unlock, Want::Ok),
+            (2, Call::CBack, Want::Ok),
+            (2, Call::Unlock, Want::Ok),
         ],
     )
 }

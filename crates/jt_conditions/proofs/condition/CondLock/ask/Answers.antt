@@ -15,7 +15,7 @@ returns-in-Lock-clause-law c name o =
     let state = ap (λ w. w.state) c.self.view_is in
     asked_at Condition condition_left_by c.args.task.now (Lock c.in-Lock.field-0) c.args.op.now c.args.self.now.state _ (lock_answer c.args.self.now.state.holder c.args.task.now) _ (held_by c.args.self.now.state (after_lock c.args.self.now.state.holder c.args.task.now)) c.in-Lock.is
     (c.lock.ensures.answer ∙ ap (λ s. lock_answer s.holder c.args.task.now) state)
-    (ap (λ h. record { holder = h; waiting = c.self.inside.waiting.items; absent = c.self.inside.absent.state }) c.lock.ensures.after ∙ ap (λ s. held_by s (after_lock s.holder c.args.task.now)) state)
+    (ap (λ h. record { holder = h; waiting = c.self.inside.waiting.state; absent = c.self.inside.absent.state }) c.lock.ensures.after ∙ ap (λ s. held_by s (after_lock s.holder c.args.task.now)) state)
     (lock_asked c.args.task.now c.in-Lock.field-0 c.args.self.now.state)
 
 pub returns-in-Unlock-clause-law : goal.returns-in-Unlock-clause-law
@@ -23,7 +23,7 @@ returns-in-Unlock-clause-law c name o =
     let state = ap (λ w. w.state) c.self-in-Unlock.view_is in
     asked_at Condition condition_left_by c.args.task.now (Unlock c.in-Unlock.field-0) c.args.op.now c.args.self.now.state _ (Done (reply_to c.args.self.now.state.holder c.args.task.now reply.Ok)) _ (held_by c.args.self.now.state (after_unlock c.args.self.now.state.holder c.args.task.now)) c.in-Unlock.is
     (c.unlock.ensures.answer ∙ ap (λ s. Done (reply_to s.holder c.args.task.now reply.Ok)) state)
-    (ap (λ h. record { holder = h; waiting = c.self-in-Unlock.inside.waiting.items; absent = c.self-in-Unlock.inside.absent.state }) c.unlock.ensures.after ∙ ap (λ s. held_by s (after_unlock s.holder c.args.task.now)) state)
+    (ap (λ h. record { holder = h; waiting = c.self-in-Unlock.inside.waiting.state; absent = c.self-in-Unlock.inside.absent.state }) c.unlock.ensures.after ∙ ap (λ s. held_by s (after_unlock s.holder c.args.task.now)) state)
     (unlock_asked c.args.task.now c.in-Unlock.field-0 c.args.self.now.state)
 
 pub returns-in-CWait-clause-law : goal.returns-in-CWait-clause-law

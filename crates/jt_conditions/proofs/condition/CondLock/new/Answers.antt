@@ -8,6 +8,6 @@ returns c = record {
   made = λ name e q.
       made name e q
       ∙ ap (λ x. Some (record { holder = x; waiting = []; absent = _ })) (sym c.new.ensures.free)
-      ∙ ap (λ x. Some (record { holder = c.new.result; waiting = x; absent = _ })) (sym c.new-2.ensures.items)
-      ∙ ap (λ x. Some (record { holder = c.new.result; waiting = c.new-2.result.items; absent = x })) (sym c.new-3.ensures);
+      ∙ ap (λ x. Some (record { holder = c.new.result; waiting = x; absent = _ })) (sym c.new-2.ensures)
+      ∙ ap (λ x. Some (record { holder = c.new.result; waiting = c.new-2.result.state; absent = x })) (sym c.new-3.ensures);
 }
