@@ -8,13 +8,13 @@ use Rattle.jt_base.specs.declared.operation.Reply.TheVariants as reply
 use Rattle.jt_base.specs.declared.entry.Entry.{Entry}
 use Rattle.jt_base.specs.declared.name.Name.{Name}
 use Rattle.jt_laws.specs.Entries.{same_path}
-use Rattle.jt_laws.specs.Locks.{Levels, is_ok, unlocked, levels_by, levels_of, level, waits, waits_of, backs_of, places_of, is_wait, is_condition, holder_reply, condition_wait_reply}
+use Rattle.jt_laws.specs.Locks.{Levels, is_ok, levels_by, levels_of, level, waits, waits_of, backs_of, places_of, is_wait, is_condition, holder_reply, condition_wait_reply}
 use Rattle.jt_laws.specs.Objects.{reply_after, IsLawful}
 use Rattle.jt_laws.proofs.Lawful.{along, lawful_push}
 use Rattle.jt_laws.proofs.LockLaws.{levels_own}
 use Rattle.jt_laws.proofs.Notified.{ok_is, backs_within}
 use Rattle.jt_laws.proofs.Paths.{same_equal}
-use Rattle.jt_laws.proofs.Waits.{waits_other, waits_not, before_of, before_other, before_same}
+use Rattle.jt_laws.proofs.Waits.{waits_other, waits_not, before_of, before_other, before_same, unlocked_before}
 use Rattle.jt_conditions.specs.Locks.{Holder, holder_of, level_in, reply_to}
 use Rattle.jt_conditions.proofs.Holders.{IsProper, levelled, proper, holder_replies}
 
@@ -68,10 +68,6 @@ wait_had own e n l q given r had =
             λ h. omega (arith, now, lv, g)
       ] refl
     ] refl
-
-unlocked_before : (l : Levels) (r : Reply) → (unlocked l r).before_wait ≡ l.before_wait
-unlocked_before l reply.Ok = refl
-unlocked_before l r = refl
 
 other_had : (own : List Entry) (e : Entry) → is_wait e.op e.reply ≡ false → ((l : Levels) → (levels_by e.op l e.reply).before_wait ≡ l.before_wait) → (q : List ℕ) → Had q own → Had q (own ++ e ∷ [])
 other_had own e w l q had =

@@ -12,6 +12,7 @@ use Rattle.jt_base.specs.declared.entry.Entry.{Entry}
 use Rattle.jt_base.specs.declared.name.Name.{Name}
 use Rattle.jt_laws.specs.Channels.{channel_left_by}
 use Rattle.jt_laws.specs.Locks.{level, waiting_of}
+use Rattle.jt_laws.specs.LockLaws.{EndsWithReturn, AddsUpSince}
 use Rattle.jt_laws.specs.Objects.{reply_after, IsLawful}
 use Rattle.jt_num.specs.Wrapping.{wrapped}
 
@@ -160,6 +161,23 @@ one_waits = refl
 
 two_levels : level child (notified ++ by child (CBack n) reply.Ok ∷ []) ≡ 2
 two_levels = refl
+
+back_with_two : EndsWithReturn child (notified ++ by child (CBack n) reply.Ok ∷ []) 2
+back_with_two = record {
+  before = by main (NewCondition n) reply.Ok ∷ by child (Lock n) reply.Ok ∷ by child (Lock n) reply.Ok ∷ [];
+  wait = by child (CWait n) reply.Ok;
+  between = by main (Lock n) reply.Ok ∷ by main (CNotify n true) (reply.Int (pos 1)) ∷ by main (Unlock n) reply.Ok ∷ [];
+  back = by child (CBack n) reply.Ok;
+  is_wait = record { task = refl; waits = refl };
+  is_last = refl;
+  is_return = record { task = refl; returns = refl };
+  level_before = refl;
+  parts = refl;
+}
+
+-- one of the two levels is given back
+one_left : AddsUpSince child (notified ++ by child (CBack n) reply.Ok ∷ []) (by main (Unlock n) reply.NotOwner ∷ by child (Unlock n) reply.Ok ∷ []) 2
+one_left = refl
 
 -- not while the lock is held, and not before a notify
 held_yet : reply_after (waiting ++ by main (CNotify n true) (reply.Int (pos 1)) ∷ []) child (CBack n) ≡ None

@@ -13,5 +13,6 @@ pub mod LockLaws
 pub mod Waits
 pub mod TaskResults
 pub mod Notified
+pub mod Parts
 pub mod Levels
 mod HistoryExamples

@@ -110,7 +110,7 @@ quiet_waiting (CWait name) ws task r e = absurd (cc)
 quiet_waiting (CNotify name all) ws task r e = absurd (cc)
 quiet_waiting op ws task r e = refl
 
-unlocked_before : (l : Levels) (r : Reply) → (unlocked l r).before_wait ≡ l.before_wait
+pub unlocked_before : (l : Levels) (r : Reply) → (unlocked l r).before_wait ≡ l.before_wait
 unlocked_before l reply.Ok = refl
 unlocked_before l r = refl
 

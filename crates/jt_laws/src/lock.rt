@@ -5,7 +5,8 @@ ghost use Rattle.jt_base.specs.declared.entry.Entry.{Entry};
 ghost use Rattle.jt_base.specs.declared.name.Name.{Name};
 ghost use Rattle.jt_base.specs.declared.operation.Op.TheVariants.{CNotify};
 ghost use Rattle.jt_base.specs.declared.operation.Reply.TheVariants as reply;
-ghost use Rattle.jt_laws.specs.LockLaws.{OneHolds, LevelsAddUp, WakesOldest};
+ghost use Rattle.jt_laws.specs.LockLaws.{OneHolds, LevelsAddUp, WakesOldest, EndsWithReturn, StartsWith, Stays, AddsUpSince, LastStart};
+ghost use Rattle.jt_laws.specs.Locks.{level};
 ghost use Rattle.jt_laws.specs.Objects.{IsLawful};
 
 /// At most one task holds a lock.
@@ -16,6 +17,15 @@ pub fn one_task_holds_lock()
 /// A task that never waited holds a lock as often as it took it and has not given it back.
 pub fn levels_add_up()
     ensures { (own : List Entry) → IsLawful own → LevelsAddUp own }
+{}
+
+/// Right after a wait a task doesn't hold the lock, and once it is back it holds it as often as
+/// before its last wait. In each list a task has a last wait or return, or none, and since then its
+/// level changed by its locks and unlocks alone: so levels add up for every task.
+pub fn levels_add_up_over_waits()
+    ensures returned { (path : List ℕ) (own : List Entry) (had : ℕ) → EndsWithReturn path own had → level path own ≡ had }
+    ensures adds_up { (path : List ℕ) (past since : List Entry) (had : ℕ) → IsLawful (past ++ since) → StartsWith path past had → Stays path since → AddsUpSince path past since had }
+    ensures every_list { (path : List ℕ) (own : List Entry) → IsLawful own → LastStart path own }
 {}
 
 /// A notify wakes the oldest tasks that wait: it takes as many from the front of the waiting list
