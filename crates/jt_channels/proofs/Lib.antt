@@ -1,3 +1,4 @@
 pub mod Left
+pub mod LeftIn
 pub mod Waiting
 pub mod Value

@@ -1,7 +1,11 @@
 -- What the operations do to the state of a channel.
-use Rattle.std.specs.Prelude.{◌≡◌, ℕ, ◌+◌, ◌≤◌, ℤ, [], ◌∷◌, ◌++◌, length, drop, true, if◌then◌else◌, nat_eq}
+use Rattle.std.specs.Prelude.{◌≡◌, ℕ, ◌+◌, ◌≤◌, ℤ, List, [], ◌∷◌, ◌++◌, length, drop, Bool, true, ◌&&◌, if◌then◌else◌, nat_eq}
 use Rattle.jt_laws.specs.Channels.{Channel}
 use Rattle.jt_laws.specs.Objects.{WithRoom}
+
+-- the items left of these: none in an unbuffered channel that is closed
+abbrev pub left_in : Bool → ℕ → List ℤ → List ℤ
+left_in closed capacity items = if closed && nat_eq capacity 0 then [] else items
 
 -- with one more item
 abbrev pub with_item : Channel → ℤ → Channel

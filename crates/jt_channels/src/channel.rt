@@ -1,6 +1,6 @@
 //! Channels.
 
-ghost use Rattle.std.specs.Prelude.{◌≡◌, ℕ, ◌^◌, ◌<◌, ◌≤◌, List, [], false, slice_get, IfSome, IfNone, OnSome, OnOk};
+ghost use Rattle.std.specs.Prelude.{◌≡◌, ℕ, ◌^◌, ◌<◌, ◌≤◌, ◌&&◌, List, [], length, true, false, not, nat_eq, slice_get, IfSome, IfNone, OnSome, OnOk};
 ghost use Rattle.jt_base.specs.declared.operation.Op.TheVariants as op;
 ghost use Rattle.jt_base.specs.declared.name.Name.{Name};
 ghost use Rattle.jt_laws.specs.Channels.{Channel, channel_left_by};
@@ -19,7 +19,8 @@ use std::marker::Model;
 pub struct Chan {
     /// How many items the buffer holds. An unbuffered channel has 0.
     capacity: u32,
-    /// The items left, oldest first.
+    /// The items left, oldest first. The close of an unbuffered channel leaves none: those that
+    /// stand here then are dropped with the channel.
     items: VecDeque<i64>,
     /// How many items were taken of an unbuffered channel.
     taken: u64,
@@ -31,10 +32,11 @@ impl Model for Chan {
     ghost use Rattle.std.specs.VecDeque.{deque_len, deque_capacity};
     ghost use Rattle.jt_laws.specs.Channels.{Channel};
     ghost use Rattle.jt_laws.specs.Objects.{WithRoom};
+    ghost use Rattle.jt_channels.specs.Steps.{left_in};
 
     ghost Value = { WithRoom Channel };
 
-    ghost view = { λ c. record { state = record { capacity = c.capacity; items = c.items.items; taken = c.taken; closed = c.closed }; room = deque_capacity c.items - deque_len c.items } };
+    ghost view = { λ c. record { state = record { capacity = c.capacity; items = left_in c.closed c.capacity c.items.items; taken = c.taken; closed = c.closed }; room = deque_capacity c.items - deque_len c.items } };
 
     ghost invariant = { λ c. (c.taken + length c.items.items ≤ 2 ^ 32) × (0 < c.capacity → c.taken ≡ 0) };
 }
@@ -159,9 +161,6 @@ impl Chan {
         ensures kept { Keeps self.old self.new 0 }
     {
         self.closed = true;
-        if self.capacity == 0 {
-            self.items.clear();
-        }
         Ask::Done(Reply::Ok)
     }
 
@@ -176,7 +175,25 @@ impl Chan {
     pub fn is_ready(&self) -> Ask
         ensures law { (task : List ℕ) (name : Name) → Asked Channel channel_left_by task (op.IsReady name) self.now.state result self.now.state }
     {
-        Ask::Done(Reply::Flag(!self.items.is_empty()))
+        Ask::Done(Reply::Flag(self.has_item()))
+    }
+
+    // Whether the close of an unbuffered channel has withdrawn the offers.
+    fn is_withdrawn(&self) -> bool
+        ensures withdrawn { result ≡ (self.now.state.closed && nat_eq self.now.state.capacity 0) }
+        ensures none { result ≡ true → self.now.state.items ≡ [] }
+    {
+        self.closed && self.capacity == 0
+    }
+
+    // Whether an item is left.
+    fn has_item(&self) -> bool
+        ensures { result ≡ not (nat_eq (length self.now.state.items) 0) }
+    {
+        if self.is_withdrawn() {
+            return false;
+        }
+        !self.items.is_empty()
     }
 
     // The oldest item, which is left no more.
@@ -187,6 +204,9 @@ impl Chan {
         ensures none { IfNone result (self.old.state.items ≡ []) }
         ensures same { IfNone result (self.new ≡ self.old) }
     {
+        if self.is_withdrawn() {
+            return None;
+        }
         let item = self.items.pop_front()?;
         if self.capacity == 0 {
             self.taken += 1;
