@@ -1,5 +1,7 @@
 //! Sequences of operations, with the answers that scripts see.
 
+ghost use Rattle.std.specs.Prelude.{◌≡◌};
+
 use crate::{Completion, CondLock, Event, Lock, Sema};
 use jt_base::{Ask, Fault, Name, Op, Path, Reply, Value};
 use std::process::Abort;
@@ -282,12 +284,19 @@ fn locks_and_conditions_answer(rt: HostRuntime) -> Result<(), Fail> {
     )
 }
 
+// An object that threads may hand over.
+fn sendable<T: Send>(object: T) -> T
+    ensures { result ≡ object }
+{
+    object
+}
+
 #[test]
 fn later_waits_are_not_notified(rt: HostRuntime) -> Result<(), Fail> {
     // A notify of all wakes tasks 1 and 2. The main task and task 2 wait later, and stay.
     play(
         &rt,
-        Object::Condition(CondLock::new(rt.alloc())),
+        Object::Condition(sendable(CondLock::new(rt.alloc()))),
         &[
             (1, Call::Lock, Want::Ok),
             (1, Call::CWait, Want::Ok),
