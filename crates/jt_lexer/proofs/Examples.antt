@@ -1,14 +1,18 @@
 -- Worked examples of what stands at a text's front, and of whole texts.
-use Rattle.std.proofs.Common.{◌≡◌, ℕ, [], ◌∷◌, ◌++◌, Ok, Err, codes, refl}
-use Rattle.jt_lexer.specs.declared.token.Sign.{Sign}
-use Rattle.jt_lexer.specs.declared.token.Sign.TheVariants as sign
-use Rattle.jt_lexer.specs.declared.token.Token.{Token}
-use Rattle.jt_lexer.specs.declared.token.TokenKind.TheVariants as kind
+use Rattle.std.proofs.Common.{◌≡◌, ℕ, [], ◌∷◌, ◌++◌, Some, Ok, Err, None, true, false, codes, refl, arith}
+use Rattle.std.specs.Fmt.{digits}
+use Rattle.jt_syntax.specs.declared.token.Sign.{Sign}
+use Rattle.jt_syntax.specs.declared.token.Sign.TheVariants as sign
+use Rattle.jt_syntax.specs.declared.token.Token.{Token}
+use Rattle.jt_syntax.specs.declared.token.TokenKind.TheVariants as kind
 use Rattle.jt_lexer.specs.declared.error.LexError.TheVariants as error
 use Rattle.jt_lexer.specs.declared.piece.Shape.TheVariants as shape
 use Rattle.jt_lexer.specs.declared.piece.Fault.TheVariants as fault
 use Rattle.jt_lexer.specs.Pieces.{piece, comment, whole_len, is_of_threads, is_of_base, is_base_threads_word, is_threads_word, is_base_word, prefix_len, is_base_threads, reserved, word, sign_at}
 use Rattle.jt_lexer.specs.Lexer.{token, escape, lex}
+use Rattle.jt_lexer.specs.Rules.{opening, closing, other, Reads, depth, IsNestedComment, in_number, value, IsNumber, plain, escaped, IsString, in_word, in_whole, IsPiece, IsRefusal}
+use Rattle.jt_lexer.proofs.Classes.{piece_sound, refusal_sound}
+use Rattle.jt_lexer.specs.Spelled.{is_word, IsSpelledName, spelled, placed}
 
 abbrev at : Sign → ℕ → Token
 at s place = token (kind.Sign s) place
@@ -164,3 +168,85 @@ other_character = refl
 dot : lex (codes "a.b") ≡ Err (error.BadCharacter 1)
 unfolding lex piece word whole_len is_base_threads prefix_len is_base_threads_word is_threads_word is_base_word reserved sign_at
 dot = refl
+
+-- ---- spelled tokens
+
+-- x += 10
+spelled_assignment : spelled (kind.Name (codes "x") ∷ kind.Sign sign.PlusAssign ∷ kind.Number 10 ∷ []) ≡ codes "x += 10 "
+unfolding digits
+spelled_assignment = refl
+
+-- a quote, a newline and a backslash in a string
+spelled_string : spelled (kind.Text (97 ∷ 34 ∷ 10 ∷ 92 ∷ []) ∷ []) ≡ 34 ∷ 97 ∷ 92 ∷ 34 ∷ 92 ∷ 110 ∷ 92 ∷ 92 ∷ 34 ∷ 32 ∷ []
+spelled_string = refl
+
+spelled_places : placed 0 (kind.Sign sign.Spawn ∷ kind.Sign sign.Open ∷ []) ≡ at sign.Spawn 0 ∷ at sign.Open 7 ∷ at sign.Stop 9 ∷ []
+spelled_places = refl
+
+plain_name : IsSpelledName (codes "notify")
+unfolding reserved
+plain_name = (refl, refl)
+
+marked_name : IsSpelledName (codes "atomic_add!")
+unfolding reserved
+marked_name = (refl, refl)
+
+no_name : reserved (codes "rand") ≡ Some sign.Rand
+unfolding reserved
+no_name = refl
+
+no_word : is_word (codes "1x") ≡ false
+no_word = refl
+
+-- ---- the rules
+
+digits_parted : value 0 (codes "1_000") ≡ 1000
+digits_parted = refl
+
+mark_between_digits : in_number (codes "1_0") 1 ≡ true
+mark_between_digits = refl
+
+two_marks : in_number (codes "1__0") 1 ≡ false
+two_marks = refl
+
+mark_at_end : in_number (codes "1_") 1 ≡ false
+mark_at_end = refl
+
+mark_in_word : in_word (codes "a!!=") 1 ≡ true
+mark_in_word = refl
+
+mark_no_word : in_word (codes "a!!=") 2 ≡ false
+mark_no_word = refl
+
+at_before_word : in_whole (codes "@x@y") 0 ≡ true
+at_before_word = refl
+
+at_within_word : in_whole (codes "@x@y") 2 ≡ false
+at_within_word = refl
+
+closed_as_opened : depth 0 (opening ∷ other 32 ∷ closing ∷ []) ≡ Some 0
+closed_as_opened = refl
+
+closed_too_often : depth 0 (closing ∷ opening ∷ []) ≡ None
+closed_too_often = refl
+
+-- the byte behind the first mark is no part of another one
+marks_share_no_byte : Reads (opening ∷ other 35 ∷ []) (codes "#=#") []
+marks_share_no_byte = (codes "#", refl, ([], refl, refl, refl, refl))
+
+one_comment : IsNestedComment (codes "#= #==# =#x") 10
+one_comment = (codes " #==# =#x", codes "x", other 32 ∷ opening ∷ closing ∷ other 32 ∷ [], refl, (_, refl, refl, refl, (_, refl, (_, refl, (_, refl, refl, refl, refl)))), refl, refl)
+
+-- "a\"" and what it means
+one_string : IsString (34 ∷ 97 ∷ 92 ∷ 34 ∷ 34 ∷ 59 ∷ []) (97 ∷ 34 ∷ []) 5
+unfolding escape
+one_string = (plain 97 ∷ escaped 34 ∷ [], 59 ∷ [], refl, ((λ e. absurd (omega (arith, e))), (λ e. absurd (omega (arith, e))), (λ e. absurd (omega (arith, e))), (refl, tt)), refl, refl)
+
+one_number : IsNumber (codes "1_000x") 1000 5
+one_number = piece_sound (codes "1_000x") (shape.Number 1000) 5 parted
+
+one_keyword : IsPiece (codes "while 1") (Some (kind.Sign sign.While)) 5
+one_keyword = piece_sound (codes "while 1") (shape.Sign sign.While) 5 keyword
+
+one_stray : IsRefusal (195 ∷ 164 ∷ []) 7 (error.BadCharacter 7)
+one_stray = refusal_sound (195 ∷ 164 ∷ []) 7 (fault.BadCharacter 0) other_character

@@ -2,9 +2,9 @@
 use Rattle.std.proofs.Common.{◌≡◌, ℕ, zero, suc, ◌+◌, ◌-◌, ◌<◌, ◌≤◌, List, [], ◌∷◌, ◌++◌, length, take, drop, Result, Ok, Err, refl, sym, ap, ◌∙◌, arith, append_assoc, subst, length-drop, Bool, true, false, nat_eq, get_or, drop-cons, add-one}
 use Rattle.std.proofs.lemmas.Bool.{eqb-true}
 use Rattle.std.proofs.lemmas.List.{drop_all}
-use Rattle.jt_lexer.specs.declared.token.Sign.TheVariants as sign
-use Rattle.jt_lexer.specs.declared.token.Token.{Token}
-use Rattle.jt_lexer.specs.declared.token.TokenKind.TheVariants as kind
+use Rattle.jt_syntax.specs.declared.token.Sign.TheVariants as sign
+use Rattle.jt_syntax.specs.declared.token.Token.{Token}
+use Rattle.jt_syntax.specs.declared.token.TokenKind.TheVariants as kind
 use Rattle.jt_lexer.specs.declared.error.LexError.{LexError}
 use Rattle.jt_lexer.specs.declared.error.LexError.TheVariants as error
 use Rattle.jt_lexer.specs.declared.piece.Shape.{Shape}

@@ -1,9 +1,9 @@
 -- The tokens of a text, or the first refusal from the left.
 use Rattle.std.specs.Prelude.{◌≡◌, ℕ, zero, suc, ◌+◌, ◌-◌, Bool, true, false, if◌then◌else◌, ◌==◌, List, [], ◌∷◌, ◌++◌, length, take, drop, Option, Some, None, Result, Ok, Err}
-use Rattle.jt_lexer.specs.declared.token.Sign.TheVariants as sign
-use Rattle.jt_lexer.specs.declared.token.Token.{Token}
-use Rattle.jt_lexer.specs.declared.token.TokenKind.{TokenKind}
-use Rattle.jt_lexer.specs.declared.token.TokenKind.TheVariants as kind
+use Rattle.jt_syntax.specs.declared.token.Sign.TheVariants as sign
+use Rattle.jt_syntax.specs.declared.token.Token.{Token}
+use Rattle.jt_syntax.specs.declared.token.TokenKind.{TokenKind}
+use Rattle.jt_syntax.specs.declared.token.TokenKind.TheVariants as kind
 use Rattle.jt_lexer.specs.declared.error.LexError.{LexError}
 use Rattle.jt_lexer.specs.declared.error.LexError.TheVariants as error
 use Rattle.jt_lexer.specs.declared.piece.Shape.{Shape}

@@ -4,8 +4,8 @@ use Rattle.std.specs.Prelude.{ℕ, suc, ◌+◌, ◌-◌, ◌*◌, ◌^◌, ◌�
 use Rattle.std.specs.Char.{is_ascii_digit, is_ascii_alphabetic, is_ascii_alphanumeric}
 use Rattle.std.specs.List.{starts_with}
 use Rattle.std.specs.Str.{bytes_eq}
-use Rattle.jt_lexer.specs.declared.token.Sign.{Sign}
-use Rattle.jt_lexer.specs.declared.token.Sign.TheVariants as sign
+use Rattle.jt_syntax.specs.declared.token.Sign.{Sign}
+use Rattle.jt_syntax.specs.declared.token.Sign.TheVariants as sign
 use Rattle.jt_lexer.specs.declared.piece.Shape.{Shape}
 use Rattle.jt_lexer.specs.declared.piece.Shape.TheVariants as shape
 use Rattle.jt_lexer.specs.declared.piece.Fault.{Fault}

@@ -1,7 +1,7 @@
 -- The words and signs of the language, in ASCII but for `≤` `≥` `≠` `÷` `⊻`, which are in UTF-8.
 use Rattle.std.specs.Prelude.{ℕ, List, [], ◌∷◌, codes}
-use Rattle.jt_lexer.specs.declared.token.Sign.{Sign}
-use Rattle.jt_lexer.specs.declared.token.Sign.TheVariants as sign
+use Rattle.jt_syntax.specs.declared.token.Sign.{Sign}
+use Rattle.jt_syntax.specs.declared.token.Sign.TheVariants as sign
 
 -- the words that are no names
 abbrev pub words : List (List ℕ × Sign)

@@ -8,7 +8,7 @@ ghost use Rattle.jt_lexer.specs.Tokens.{IsTokensOf, IsWhole, Refuses};
 use crate::error::LexError;
 use crate::piece::{Fault, Shape, piece};
 use crate::quoted::unescaped;
-use crate::token::{Sign, Token, TokenKind};
+use jt_syntax::{Sign, Token, TokenKind};
 use sqlite_items::Items;
 use std::alloc::{AllocError, Global};
 

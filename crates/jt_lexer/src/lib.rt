@@ -7,12 +7,10 @@ mod number;
 mod piece;
 mod quoted;
 mod table;
-mod token;
 mod word;
 
 pub use error::LexError;
 pub use lexer::lex;
-pub use token::{Sign, Token, TokenKind};
 
 #[cfg(test)]
 mod tests;

@@ -6,8 +6,8 @@ ghost use Rattle.jt_lexer.specs.Pieces as spec;
 use crate::number::number;
 use crate::quoted::string;
 use crate::table::SIGNS;
-use crate::token::Sign;
 use crate::word::word;
+use jt_syntax::Sign;
 
 /// What a piece of a text is.
 #[derive(Clone, Copy, Debug)]

@@ -1,6 +1,6 @@
 //! The words and signs of the language.
 
-use crate::token::Sign;
+use jt_syntax::Sign;
 
 /// The words that are no names.
 pub const WORDS: [(&[u8], Sign); 41] = [

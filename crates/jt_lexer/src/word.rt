@@ -6,7 +6,7 @@ ghost use Rattle.jt_lexer.specs.Pieces as spec;
 
 use crate::piece::{Fault, Piece, Shape, byte};
 use crate::table::{OF_BASE, OF_THREADS, WORDS};
-use crate::token::Sign;
+use jt_syntax::Sign;
 
 fn word_len(z: &[u8]) -> usize
     ensures value { result ≡ spec.word_len z.now }

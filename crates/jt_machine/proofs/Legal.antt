@@ -16,11 +16,12 @@ use Rattle.jt_laws.specs.Histories.{Fits, Stamps, LegalFrom, StampedFrom, IsLega
 use Rattle.jt_laws.specs.Lines.{main_end}
 use Rattle.jt_laws.specs.Seats.{Seat, seat_from, seat_after}
 use Rattle.jt_laws.specs.Tasks.{has_begun, has_ended, ok_if}
+use Rattle.jt_syntax.specs.Built.{unbuilt}
 use Rattle.jt_syntax.specs.Tree.{TopTree}
 use Rattle.jt_syntax.specs.declared.script.Script.{Script}
 use Rattle.jt_syntax.specs.View.{script_view}
 use Rattle.jt_step.specs.declared.start.Start.{Start}
-use Rattle.jt_step.proofs.Texts.{top_text}
+use Rattle.jt_step.proofs.Built.{top_text}
 use Rattle.jt_step.proofs.Order.{coming_tops, coming_main}
 use Rattle.jt_laws.specs.Entries.{object_of}
 use Rattle.jt_laws.specs.Objects.{reply_after}
@@ -79,7 +80,7 @@ begun_more n past text b =
       seated = λ s. seat_append s past e ∙ b.seated s;
     }
 
-module _ (script : Script) (seeds : Seeds) where
+module _ (script : Script) (seeds : Seeds) (built : unbuilt (script_view script) ≡ None) where
   -- an entry of main after n others fits where its operation comes next and its object allows it
   fits : (n : ℕ) (past : List Entry) (op : Op) → Begun n past → coming_main (script_view script) n ≡ Needs op
       → reply_after (of_object (object (entry_of (suc n) op)) past) [] op ≡ Some reply.Ok
@@ -90,7 +91,7 @@ module _ (script : Script) (seeds : Seeds) where
     comes =
         ap (λ h. op_of (next_of (main_task (script_view script) (record { replies = map reply_of h })))) b.mine
         ∙ ap (λ rs. op_of (next_of (main_task (script_view script) (record { replies = rs })))) b.replies
-        ∙ ap op_of (next_ok (script_view script) n)
+        ∙ ap op_of (next_ok (script_view script) n built)
         ∙ ap (λ x. op_of (Some x)) comes;
     allowed = allowed;
     works = ap (λ h. may_work one_worker (seat_of one_worker None h) 0) b.mine ∙ ap (λ s. may_work one_worker s 0) (b.seated main_seat);
@@ -166,9 +167,9 @@ history_ends tops = end_of 2 tops
 first_rest : (tops : List TopTree) (j : ℕ) → coming_main tops (1 + j) ≡ coming_tops tops j
 first_rest tops j = let e : 1 + j ≡ suc j = omega arith in ap (coming_main tops) e
 
-pub history_legal : (script : Script) (seeds : Seeds) → length script.tops + 2 ≤ default_events → IsLegalHistory Start (plain_world script seeds) (history_of (script_view script))
-history_legal script seeds few = record {
-  legal = (first_fits script seeds, legal_rest script seeds 1 (entry_of 1 Begin ∷ []) (script_view script) begun_first (first_rest (script_view script)));
-  stamped = (first_stamps script seeds, stamped_rest script seeds 1 (entry_of 1 Begin ∷ []) (script_view script) begun_first (let l = length-map script.tops top_view in omega (arith, l, few)));
+pub history_legal : (script : Script) (seeds : Seeds) → unbuilt (script_view script) ≡ None → length script.tops + 2 ≤ default_events → IsLegalHistory Start (plain_world script seeds) (history_of (script_view script))
+history_legal script seeds built few = record {
+  legal = (first_fits script seeds built, legal_rest script seeds built 1 (entry_of 1 Begin ∷ []) (script_view script) begun_first (first_rest (script_view script)));
+  stamped = (first_stamps script seeds built, stamped_rest script seeds built 1 (entry_of 1 Begin ∷ []) (script_view script) begun_first (let l = length-map script.tops top_view in omega (arith, l, few)));
   ordered = ordered 1 (operations_of (script_view script));
 }

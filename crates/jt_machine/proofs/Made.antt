@@ -1,5 +1,5 @@
 -- The history of a script without other operations than prints, written out.
-use Rattle.std.proofs.Common.{◌≡◌, ℕ, zero, suc, ◌+◌, ◌<◌, List, [], ◌∷◌, ◌++◌, length, drop, replicate, Some, refl, sym, ap, ◌∙◌, arith}
+use Rattle.std.proofs.Common.{◌≡◌, ℕ, zero, suc, ◌+◌, ◌<◌, List, [], ◌∷◌, ◌++◌, length, drop, replicate, Some, None, refl, sym, ap, ◌∙◌, arith}
 use Rattle.std.proofs.lemmas.List.{append_assoc, length-append}
 use Rattle.jt_base.specs.declared.entry.Entry.{Entry}
 use Rattle.jt_base.specs.declared.operation.Op.{Op}
@@ -8,12 +8,13 @@ use Rattle.jt_base.specs.declared.operation.Reply.TheVariants as reply
 use Rattle.jt_base.specs.declared.value.Value.{Value}
 use Rattle.jt_base.specs.declared.value.Value.TheVariants.{Nothing}
 use Rattle.jt_laws.specs.Coming.{Next, Needs, Over}
+use Rattle.jt_syntax.specs.Built.{unbuilt}
 use Rattle.jt_syntax.specs.Tree.{TopTree}
 use Rattle.jt_step.specs.declared.start.Start.{Start}
 use Rattle.jt_step.specs.State.{bind}
 use Rattle.jt_step.specs.Meaning.{main_ended, main_task, run_tops}
 use Rattle.jt_step.specs.Next.{next_of}
-use Rattle.jt_step.proofs.Texts.{top_text, run_top_asks}
+use Rattle.jt_step.proofs.Built.{top_text, run_top_asks, first_built, rest_built}
 use Rattle.jt_step.proofs.Order.{coming_tops, coming_main, in_tops}
 
 abbrev pub entry_of : ℕ → Op → Entry
@@ -35,17 +36,17 @@ abbrev pub history_of : List TopTree → List Entry
 history_of tops = entries_from 1 (operations_of tops)
 
 -- what comes next where each operation so far replied ok
-tops_ok : (v : Value) (tops : List TopTree) (n : ℕ) → next_of (in_tops v tops (replicate n reply.Ok)) ≡ Some (coming_tops tops n)
-tops_ok v [] zero = refl
-tops_ok v [] (suc n) = refl
-tops_ok v (t ∷ ts) zero = ap (λ o. next_of (main_ended (bind o (λ w. run_tops w ts)))) (run_top_asks t (record { replies = [] }))
-tops_ok v (t ∷ ts) (suc n) =
-    ap (λ o. next_of (main_ended (bind o (λ w. run_tops w ts)))) (run_top_asks t (record { replies = reply.Ok ∷ replicate n reply.Ok }))
-    ∙ tops_ok Nothing ts n
+tops_ok : (v : Value) (tops : List TopTree) (n : ℕ) → unbuilt tops ≡ None → next_of (in_tops v tops (replicate n reply.Ok)) ≡ Some (coming_tops tops n)
+tops_ok v [] zero b = refl
+tops_ok v [] (suc n) b = refl
+tops_ok v (t ∷ ts) zero b = ap (λ o. next_of (main_ended (bind o (λ w. run_tops w ts)))) (run_top_asks t (first_built t ts b) (record { replies = [] }))
+tops_ok v (t ∷ ts) (suc n) b =
+    ap (λ o. next_of (main_ended (bind o (λ w. run_tops w ts)))) (run_top_asks t (first_built t ts b) (record { replies = reply.Ok ∷ replicate n reply.Ok }))
+    ∙ tops_ok Nothing ts n (rest_built t ts b)
 
-pub next_ok : (tops : List TopTree) (n : ℕ) → next_of (main_task tops (record { replies = replicate n reply.Ok })) ≡ Some (coming_main tops n)
-next_ok tops zero = refl
-next_ok tops (suc n) = tops_ok Nothing tops n
+pub next_ok : (tops : List TopTree) (n : ℕ) → unbuilt tops ≡ None → next_of (main_task tops (record { replies = replicate n reply.Ok })) ≡ Some (coming_main tops n)
+next_ok tops zero b = refl
+next_ok tops (suc n) b = tops_ok Nothing tops n b
 
 abbrev asked_or : Op → Next Start → Op
 asked_or other (Needs op) = op

@@ -11,6 +11,7 @@ use Rattle.jt_laws.specs.Coming.{Next}
 use Rattle.jt_laws.specs.Coming as next
 use Rattle.jt_laws.specs.Histories.{IsLegalHistory}
 use Rattle.jt_laws.specs.Lines.{main_end}
+use Rattle.jt_syntax.specs.Built.{unbuilt}
 use Rattle.jt_syntax.specs.declared.script.Script.{Script}
 use Rattle.jt_syntax.specs.View.{script_view, top_view}
 use Rattle.jt_step.specs.declared.start.Start.{Start}
@@ -29,6 +30,7 @@ pub record Sofar (script : Script) (seeds : Seeds) (task : Task) (history : List
   pub of_script : task.script ≡ script
   pub of_seeds : task.start ≡ main_start seeds
   pub replies : map reply_of_note task.log ≡ replicate (length history) reply.Ok
+  pub built : unbuilt (script_view script) ≡ None
   pub few : length history ≤ length script.tops + 2
   pub rest : history ++ entries_from (suc (length history)) (drop (length history) (operations_of (script_view script))) ≡ history_of (script_view script)
 
@@ -40,7 +42,7 @@ module _ (script : Script) (seeds : Seeds) (task : Task) (history : List Entry) 
   pub comes : (a : Advance) → coming task ≡ Some (told a) → coming_main (script_view script) (length history) ≡ told a
   unfolding next_or
   comes a e = ap (next_or (told a))
-      (sym (next_ok (script_view script) (length history))
+      (sym (next_ok (script_view script) (length history) s.built)
       ∙ ap (λ rs. next_of (main_task (script_view script) (record { replies = rs }))) (sym s.replies)
       ∙ ap (λ (x : Script). next_of (main_task (script_view x) (record { replies = map reply_of_note task.log }))) (sym s.of_script)
       ∙ e)
@@ -61,7 +63,7 @@ module _ (script : Script) (seeds : Seeds) (task : Task) (history : List Entry) 
       ∙ ap (λ ns. next_of (main_task (script_view script) (record { replies = map reply_of_note ns ++ reply.Ok ∷ [] }))) log
       ∙ ap (λ rs. next_of (main_task (script_view script) (record { replies = rs ++ reply.Ok ∷ [] }))) s.replies
       ∙ ap (λ rs. next_of (main_task (script_view script) (record { replies = rs }))) (replicate_more (length history))
-      ∙ next_ok (script_view script) (suc (length history)) in
+      ∙ next_ok (script_view script) (suc (length history)) s.built in
       subst (λ (o : Option (Next Start)). IsSome o) (sym e) refl
 
   -- one entry more
@@ -76,6 +78,7 @@ module _ (script : Script) (seeds : Seeds) (task : Task) (history : List Entry) 
         of_seeds = same_start ∙ s.of_seeds;
         replies = ap (map reply_of_note) log ∙ map-append reply_of_note task.log (record { stamp = length history + 1; reply = reply.Ok } ∷ [])
             ∙ ap (λ rs. rs ++ reply.Ok ∷ []) s.replies ∙ replicate_more (length history) ∙ ap (λ n. replicate n reply.Ok) (sym one);
+        built = s.built;
         few = omega (arith, one, r);
         rest = ap (λ n. (history ++ entry_of (length history + 1) op ∷ []) ++ entries_from (suc (length (history ++ entry_of (length history + 1) op ∷ []))) (drop n (operations_of (script_view script)))) one
             ∙ sym (entries_more history (drop (length history) (operations_of (script_view script))) (drop (suc (length history)) (operations_of (script_view script))) op
@@ -90,7 +93,7 @@ module _ (script : Script) (seeds : Seeds) (task : Task) (history : List Entry) 
       ∙ s.rest
 
   pub legal : (a : Advance) → a ≡ Over → coming task ≡ Some (told a) → length script.tops + 2 ≤ default_events → IsLegalHistory Start (plain_world script seeds) history
-  legal a is e few = let P : List Entry → Type 0 = λ h. IsLegalHistory Start (plain_world script seeds) h in subst P (sym (whole a is e)) (history_legal script seeds few)
+  legal a is e few = let P : List Entry → Type 0 = λ h. IsLegalHistory Start (plain_world script seeds) h in subst P (sym (whole a is e)) (history_legal script seeds s.built few)
 
   pub ended : (a : Advance) → a ≡ Over → coming task ≡ Some (told a) → main_end history ≡ Some (End Nothing)
   ended a is e = ap main_end (whole a is e) ∙ history_ends (script_view script)

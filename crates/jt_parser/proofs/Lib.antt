@@ -1,8 +1,8 @@
-pub mod Lexing
-pub mod Loops
-pub mod TokenLaws
-pub mod Complete
-pub mod Sound
+pub mod Arms
+mod Chains
+mod CommaTurns
+pub mod Jumps
+pub mod Lists
+pub mod Names
+mod Starts
 pub mod Whole
-pub mod Examples
-pub mod Few

@@ -1,30 +1,29 @@
--- The one script that the bytes are, or none.
-use Rattle.std.proofs.Common.{◌≡◌, ℕ, ◌<◌, List, [], length, Some, None, sym, ap, subst, ◌∙◌}
+-- What is read of joined lines, for the tokens as they were written.
+use Rattle.std.proofs.Common.{◌≡◌, ℕ, ◌+◌, ◌<◌, List, length, Ok, subst, arith}
 use Rattle.jt_syntax.specs.Tree.{TopTree}
-use Rattle.jt_parser.specs.declared.token.Token.{Token}
-use Rattle.jt_parser.specs.declared.lexer.State.TheVariants as state
-use Rattle.jt_parser.specs.Lexer.{lex}
-use Rattle.jt_parser.specs.Reader.{script}
-use Rattle.jt_parser.specs.Form.{IsScriptOf}
-use Rattle.jt_parser.proofs.TokenLaws.{some_inj, none_some, tokens_read, read_tokens}
-use Rattle.jt_parser.proofs.Complete.{script_complete}
-use Rattle.jt_parser.proofs.Sound.{script_sound}
+use Rattle.jt_syntax.specs.declared.token.Token.{Token}
+use Rattle.jt_grammar.specs.Grammar.{EndsWithStop}
+use Rattle.jt_grammar.specs.Joined.{joined, IsScriptOf, IsUnexpected, IsTooDeep}
+use Rattle.jt_grammar.specs.Nesting.{TopsWithin}
+use Rattle.jt_grammar.specs.Reader.{script}
+use Rattle.jt_grammar.proofs.Joining.{IsAt}
+use Rattle.jt_grammar.proofs.Main.{lines_found, lines_unexpected, lines_deep, lines_spent}
+use Rattle.jt_parser.specs.declared.fault.Fault.{Fault}
+use Rattle.jt_parser.specs.declared.fault.Fault.TheVariants as fault
+use Rattle.jt_parser.specs.Reads.{Fails}
 
-module _ (bytes : List ℕ) (tokens : List Token) (lexed : lex state.Between bytes ≡ Some tokens) where
-  pub found : (n : ℕ) (rest : List Token) (xs : List TopTree) → script n tokens ≡ Some (xs, rest) → IsScriptOf bytes xs
-  found n rest xs e = (tokens, read_tokens bytes tokens lexed, script_sound n tokens rest xs e)
+module _ (ts js cur : List Token) (n : ℕ) (whole : EndsWithStop ts) (joins : js ≡ joined ts) (cursor : cur ≡ js) (turns : n ≡ length js + 1) where
+  enough : length js < n
+  enough = omega (arith, turns)
 
-  -- every script of these bytes is read
-  pub read : (n : ℕ) (xs : List TopTree) → length tokens < n → IsScriptOf bytes xs → script n tokens ≡ Some (xs, [])
-  read n xs h s =
-      let same : tokens ≡ s.0 = some_inj tokens s.0 (sym lexed ∙ tokens_read s.0 bytes s.1) in
-      ap (script n) same ∙ script_complete n xs s.0 s.2 (subst (λ z. length z < n) same h)
+  pub is_script : (tops : List TopTree) (rest : List Token) → script n 200 cur ≡ Ok (tops, rest) → IsScriptOf ts tops × TopsWithin 200 tops
+  is_script tops rest e = lines_found n 200 ts js whole joins enough tops rest (subst (λ z. script n 200 z ≡ Ok (tops, rest)) cursor e)
 
-  pub only : (n : ℕ) (rest : List Token) (xs others : List TopTree) → length tokens < n → script n tokens ≡ Some (xs, rest) → IsScriptOf bytes others → xs ≡ others
-  only n rest xs others h e s = ap (λ p. p.0) (some_inj (xs, rest) (others, []) (sym e ∙ read n others h s))
+  pub is_unexpected : (f : Fault) (left : ℕ) → f ≡ fault.Unexpected left → Fails f (script n 200 cur) → (t : Token) × IsUnexpected 200 ts t × IsAt js left t
+  is_unexpected f left is e = lines_unexpected n 200 ts js whole joins enough left (subst (λ z. Fails (fault.Unexpected left) (script n 200 z)) cursor (subst (λ z. Fails z (script n 200 cur)) is e))
 
-  pub unread : (n : ℕ) (xs : List TopTree) → length tokens < n → script n tokens ≡ None → IsScriptOf bytes xs → ⊥
-  unread n xs h e s = none_some (xs, []) (sym e ∙ read n xs h s)
+  pub is_deep : (f : Fault) (left : ℕ) → f ≡ fault.TooDeep left → Fails f (script n 200 cur) → (t : Token) × IsTooDeep 200 ts t × IsAt js left t
+  is_deep f left is e = lines_deep n 200 ts js whole joins enough left (subst (λ z. Fails (fault.TooDeep left) (script n 200 z)) cursor (subst (λ z. Fails z (script n 200 cur)) is e))
 
-pub no_tokens : (bytes : List ℕ) (xs : List TopTree) → lex state.Between bytes ≡ None → IsScriptOf bytes xs → ⊥
-no_tokens bytes xs e s = none_some s.0 (sym e ∙ tokens_read s.0 bytes s.1)
+  pub not_spent : (f : Fault) → f ≡ fault.Spent → Fails f (script n 200 cur) → ⊥
+  not_spent f is e = lines_spent n 200 ts js whole joins enough (subst (λ z. Fails fault.Spent (script n 200 z)) cursor (subst (λ z. Fails z (script n 200 cur)) is e))

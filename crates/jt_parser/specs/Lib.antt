@@ -1,8 +1,10 @@
-pub use Rattle.jt_syntax.specs.Tree
-pub use Rattle.jt_syntax.specs.View
-pub mod Tokens
-pub mod Grammar
-pub mod Form
-pub mod Lexer
-pub mod Reader
+pub mod Arms
+pub mod Chains
+pub mod Guards
+pub mod Kinds
+pub mod Names
+pub mod Nests
 pub mod Reads
+pub mod Refusals
+pub mod Statements
+pub mod Tokens

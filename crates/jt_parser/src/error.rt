@@ -1,34 +1,17 @@
-//! Why a text gives no script.
+//! Why a script is refused.
 
-use std::alloc::{AllocError, AllocFailed};
+use thiserror::Error;
 
-/// Why `parse` gives no script.
-#[derive(Clone, Copy, Debug, PartialEq, Eq, Drop)]
+/// Why `parse` gives no script. A place is in bytes from the text's beginning.
+#[derive(Clone, Copy, Debug, PartialEq, Eq, Drop, Error)]
 pub enum ParseError {
-    /// The text isn't of the form that is read.
-    NotBuilt,
-    /// There was no memory for the tokens or the tree.
+    /// The tokens before the one that begins here begin a script, and with it they begin none.
+    #[error("unexpected token at {0}")]
+    Unexpected(u32),
+    /// The opener that begins here is the first that would be open inside 200 others.
+    #[error("nested too deeply at {0}")]
+    TooDeep(u32),
+    /// There was no memory for the script.
+    #[error("out of memory")]
     OutOfMemory,
-}
-
-impl From<AllocError> for ParseError {
-    ghost use Rattle.std.specs.Prelude.{◌≡◌};
-    ghost use Rattle.jt_parser.specs.declared.error.ParseError.TheVariants.{OutOfMemory};
-
-    ghost from_gives = { λ _ e. e ≡ OutOfMemory };
-
-    fn from(_error: AllocError) -> ParseError {
-        ParseError::OutOfMemory
-    }
-}
-
-impl<T: Drop> From<AllocFailed<T>> for ParseError {
-    ghost use Rattle.std.specs.Prelude.{◌≡◌};
-    ghost use Rattle.jt_parser.specs.declared.error.ParseError.TheVariants.{OutOfMemory};
-
-    ghost from_gives = { λ _ e. e ≡ OutOfMemory };
-
-    fn from(_error: AllocFailed<T>) -> ParseError {
-        ParseError::OutOfMemory
-    }
 }

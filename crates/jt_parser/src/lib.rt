@@ -1,15 +1,29 @@
-//! From the bytes of a script to its tree.
+//! From the tokens of a script to its tree.
 #![tactic(auto)]
 
+mod binary;
+mod block;
+mod call;
+mod chain;
+mod comma;
+mod condition;
 mod cursor;
 mod error;
-mod form;
-mod lexer;
+mod fault;
+mod guard;
+mod levels;
+mod lines;
+mod loops;
+mod operand;
+mod operator;
+mod parsing;
+mod primary;
+mod read;
 mod rules;
-mod token;
+mod statement;
+mod target;
+mod task;
+mod top;
 
 pub use error::ParseError;
-pub use form::parse;
-
-#[cfg(test)]
-mod tests;
+pub use parsing::parse;

@@ -1,5 +1,5 @@
-pub mod Lines
+pub mod Built
+pub mod Chains
 pub mod Order
 pub mod Texts
-pub mod Values
 mod Examples

@@ -10,15 +10,16 @@ use Rattle.jt_base.specs.declared.operation.Op.TheVariants.{Begin, End, Print}
 use Rattle.jt_base.specs.declared.operation.Reply.{Reply}
 use Rattle.jt_base.specs.declared.operation.Reply.TheVariants as reply
 use Rattle.jt_laws.specs.Coming.{Next, Needs, Over}
+use Rattle.jt_syntax.specs.Built.{unbuilt}
 use Rattle.jt_syntax.specs.Tree.{TopTree}
 use Rattle.jt_syntax.specs.View.{top_view}
 use Rattle.jt_syntax.specs.declared.script.Top.{Top}
 use Rattle.jt_step.specs.declared.start.Start.{Start}
-use Rattle.jt_step.specs.State.{State, Out, Gave, Asks, Done, Unfit, bind}
+use Rattle.jt_step.specs.State.{State, Out, Gave, Done, Unfit, bind}
 use Rattle.jt_step.specs.Meaning.{answered, ask, run_top, run_tops, main_ended, main_task}
 use Rattle.jt_step.specs.Next.{next_of}
 use Rattle.jt_step.specs.Tasks.{reply_of_note}
-use Rattle.jt_step.proofs.Texts.{top_text, run_top_asks}
+use Rattle.jt_step.proofs.Built.{asked_text, top_text, run_top_asks, rest_built, first_built}
 
 -- of an operation that replies ok alone
 module _ (op : Op) (good : Out) (s : State) (fits : answered op reply.Ok s ≡ good) (unfit : (r : Reply) → (r ≡ reply.Ok) ⊎ (answered op r s ≡ Unfit)) where
@@ -83,20 +84,20 @@ coming_main tops (suc n) = coming_tops tops n
 abbrev pub in_tops : Value → List TopTree → List Reply → Out
 in_tops v tops rs = main_ended (run_tops v tops (record { replies = rs }))
 
-tops_next : (v : Value) (tops : List TopTree) (rs : List Reply) → IsSome (next_of (in_tops v tops rs)) → next_of (in_tops v tops rs) ≡ Some (coming_tops tops (length rs))
-tops_next v [] [] is = refl
-tops_next v [] (r ∷ rs) is = by_fit (End Nothing) Done (record { replies = rs }) refl (end_fits Nothing (record { replies = rs })) (λ o. o) Over r refl is (λ _. refl)
-tops_next v (t ∷ ts) [] is = ap (λ o. next_of (main_ended (bind o (λ w. run_tops w ts)))) (run_top_asks t (record { replies = [] }))
-tops_next v (t ∷ ts) (r ∷ rs) is =
-    let asks = ap (λ o. next_of (main_ended (bind o (λ w. run_tops w ts)))) (run_top_asks t (record { replies = r ∷ rs })) in
+tops_next : (v : Value) (tops : List TopTree) (rs : List Reply) → unbuilt tops ≡ None → IsSome (next_of (in_tops v tops rs)) → next_of (in_tops v tops rs) ≡ Some (coming_tops tops (length rs))
+tops_next v [] [] b is = refl
+tops_next v [] (r ∷ rs) b is = by_fit (End Nothing) Done (record { replies = rs }) refl (end_fits Nothing (record { replies = rs })) (λ o. o) Over r refl is (λ _. refl)
+tops_next v (t ∷ ts) [] b is = ap (λ o. next_of (main_ended (bind o (λ w. run_tops w ts)))) (run_top_asks t (first_built t ts b) (record { replies = [] }))
+tops_next v (t ∷ ts) (r ∷ rs) b is =
+    let asks = ap (λ o. next_of (main_ended (bind o (λ w. run_tops w ts)))) (run_top_asks t (first_built t ts b) (record { replies = r ∷ rs })) in
     asks ∙ by_fit (Print (top_text t)) (Gave Nothing (record { replies = rs })) (record { replies = rs }) refl (print_fits (top_text t) (record { replies = rs }))
-    (λ o. main_ended (bind o (λ w. run_tops w ts))) (coming_tops ts (length rs)) r refl (subst (λ (o : Option (Next Start)). IsSome o) asks is) (tops_next Nothing ts rs)
+    (λ o. main_ended (bind o (λ w. run_tops w ts))) (coming_tops ts (length rs)) r refl (subst (λ (o : Option (Next Start)). IsSome o) asks is) (tops_next Nothing ts rs (rest_built t ts b))
 
-pub main_next : (tops : List TopTree) (rs : List Reply) → IsSome (next_of (main_task tops (record { replies = rs }))) → next_of (main_task tops (record { replies = rs })) ≡ Some (coming_main tops (length rs))
-main_next tops [] is = refl
-main_next tops (r ∷ rs) is =
+pub main_next : (tops : List TopTree) (rs : List Reply) → unbuilt tops ≡ None → IsSome (next_of (main_task tops (record { replies = rs }))) → next_of (main_task tops (record { replies = rs })) ≡ Some (coming_main tops (length rs))
+main_next tops [] b is = refl
+main_next tops (r ∷ rs) b is =
     by_fit Begin (Gave Nothing (record { replies = rs })) (record { replies = rs }) refl (begin_fits (record { replies = rs }))
-    (λ o. bind o (λ v s. main_ended (run_tops Nothing tops s))) (coming_tops tops (length rs)) r refl is (tops_next Nothing tops rs)
+    (λ o. bind o (λ v s. main_ended (run_tops Nothing tops s))) (coming_tops tops (length rs)) r refl is (tops_next Nothing tops rs b)
 
 -- by the place among the statements
 pub coming_print : (tops : List Top) (k : ℕ) (top : Top) → slice_get tops k ≡ Some top → coming_tops (map top_view tops) k ≡ Needs (Print (top_text (top_view top)))
@@ -119,19 +120,13 @@ coming_over (t ∷ ts) zero e other = absurd (cc)
 coming_over (t ∷ ts) (suc k) e other = coming_over ts k e (λ q. other (ap suc q))
 
 -- the print of a statement asks for its text, so the text that a body finds is that one
-asked_text : Out → List ℕ
-asked_text (Asks (Print text) start s) = text
-asked_text o = []
-
 pub only_text : (top : TopTree) (text : List ℕ) → ((s : State) → run_top top s ≡ ask (Print text) None s) → text ≡ top_text top
-unfolding asked_text
-only_text top text asks =
-    ap asked_text (sym (asks (record { replies = [] })) ∙ run_top_asks top (record { replies = [] }))
+only_text top text asks = ap asked_text (sym (asks (record { replies = [] })))
 
 -- with the notes of the replies
-module _ (tops : List Top) (log : List Note) (is : IsSome (next_of (main_task (map top_view tops) (record { replies = map reply_of_note log })))) where
+module _ (tops : List Top) (log : List Note) (built : unbuilt (map top_view tops) ≡ None) (is : IsSome (next_of (main_task (map top_view tops) (record { replies = map reply_of_note log })))) where
   by_length : (n : ℕ) → length log ≡ n → next_of (main_task (map top_view tops) (record { replies = map reply_of_note log })) ≡ Some (coming_main (map top_view tops) n)
-  by_length n e = main_next (map top_view tops) (map reply_of_note log) is ∙ ap (λ k. Some (coming_main (map top_view tops) k)) (length-map log reply_of_note ∙ e)
+  by_length n e = main_next (map top_view tops) (map reply_of_note log) built is ∙ ap (λ k. Some (coming_main (map top_view tops) k)) (length-map log reply_of_note ∙ e)
 
   pub print_comes : (k : ℕ) (top : Top) (text : List ℕ) → length log ≡ suc k → slice_get tops k ≡ Some top → ((s : State) → run_top (top_view top) s ≡ ask (Print text) None s)
       → next_of (main_task (map top_view tops) (record { replies = map reply_of_note log })) ≡ Some (Needs (Print text))

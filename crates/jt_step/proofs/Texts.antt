@@ -1,79 +1,67 @@
--- Trees without operations have one value, and a call of `println` one text.
-use Rattle.std.proofs.Common.{◌≡◌, ℕ, List, [], ◌∷◌, ◌++◌, Some, None, ℤ, pos, ◌+ℤ◌, ◌-ℤ◌, ◌*ℤ◌, refl, sym, ap, ◌∙◌}
-use Rattle.std.proofs.lemmas.List.{append-nil, append_assoc}
+-- What items show, and what a call of `println` prints.
+use Rattle.std.proofs.Common.{◌≡◌, ◌+◌, ◌<◌, length, drop, slice_index_or, ℕ, ℤ, List, [], ◌∷◌, ◌++◌, true, Some, None, Option, Result, Ok, Err, IfOk, refl, sym, subst, ap, ◌∙◌}
+use Rattle.std.proofs.lemmas.Bool.{false≢true}
+use Rattle.std.proofs.lemmas.List.{append-nil, append_assoc, at_drop_more}
 use Rattle.std.specs.Fmt.{signed_decimal}
-use Rattle.jt_base.specs.declared.value.Value.{Value}
 use Rattle.jt_base.specs.declared.value.Value.TheVariants.{Int}
-use Rattle.jt_base.specs.declared.operation.Op.TheVariants.{Print}
-use Rattle.jt_num.specs.Wrapping.{wrapped}
-use Rattle.jt_syntax.specs.declared.script.Additive.{Additive}
-use Rattle.jt_syntax.specs.declared.script.Additive.TheVariants.{Plus, Minus}
-use Rattle.jt_syntax.specs.Tree.{Tree, Trees, Terms, TopTree, number, product, sum, no_trees, tree, no_terms, term, println}
-use Rattle.jt_step.specs.State.{State, Gave, bind}
-use Rattle.jt_step.specs.Meaning.{added, multiplied, shown_all, shown_with, print_text, ask, run, run_product, run_sum, run_items, run_top}
+use Rattle.jt_syntax.specs.Built.{is_sum, is_item, are_items}
+use Rattle.jt_syntax.specs.Tree.{Tree, number, chain, text}
+use Rattle.jt_syntax.proofs.Views.{view-Text, view-Value}
+use Rattle.jt_syntax.specs.View.{view, item_view, item_views}
+use Rattle.jt_syntax.specs.declared.script.Expr.{Expr}
+use Rattle.jt_syntax.specs.declared.script.Item.{Item}
+use Rattle.jt_syntax.specs.declared.script.Item.TheVariants as item
+use Rattle.jt_step.specs.State.{State, Out, Gave, bind}
+use Rattle.jt_step.specs.Meaning.{Printed, value_item, text_item, shown_item, shown_with, shown_all, run, run_items}
+use Rattle.jt_step.specs.Items.{Shows}
+use Rattle.jt_step.proofs.Chains.{both_true}
 
-abbrev pub added_numbers : Additive → ℤ → ℤ → ℤ
-added_numbers Plus a b = wrapped (a +ℤ b)
-added_numbers Minus a b = wrapped (a -ℤ b)
+pub shows_text : (t : List ℕ) → Shows (text t) t
+shows_text t = (text_item t, refl, λ k s. refl)
 
-abbrev mutual
-  pub value_of : Tree → ℤ
-  value_of (number n) = wrapped (pos n)
-  value_of (product first more) = product_of (value_of first) more
-  value_of (sum first more) = sum_of (value_of first) more
+pub shows_value : (t : Tree) (n : ℤ) → is_sum t ≡ true → ((s : State) → run t s ≡ Gave (Int n) s) → Shows t (signed_decimal n)
+shows_value (number m) n built gives = (value_item (Int n), refl, λ k s. ap (λ o. bind o (λ v. k (value_item v))) (gives s))
+shows_value (chain c first more) n built gives = (value_item (Int n), refl, λ k s. ap (λ o. bind o (λ v. k (value_item v))) (gives s))
+shows_value _ n built gives = absurd (false≢true built)
 
-  pub product_of : ℤ → Trees → ℤ
-  product_of m no_trees = m
-  product_of m (tree t ts) = product_of (wrapped (m *ℤ value_of t)) ts
+-- of the items themselves
+pub text_shows : (x : Item) (t shown : List ℕ) → x ≡ item.Text t → shown ≡ t → Shows (item_view x) shown
+text_shows x t shown is same = subst (λ z. Shows z shown) (sym (ap item_view is ∙ view-Text t)) (subst (λ z. Shows (text t) z) (sym same) (shows_text t))
 
-  pub sum_of : ℤ → Terms → ℤ
-  sum_of m no_terms = m
-  sum_of m (term sign t ts) = sum_of (added_numbers sign m (value_of t)) ts
+pub value_shows : (x : Item) (e : Expr) (shown : List ℕ) → x ≡ item.Value e → Shows (view e) shown → Shows (item_view x) shown
+value_shows x e shown is shows = subst (λ z. Shows z shown) (sym (ap item_view is ∙ view-Value e)) shows
 
-added_is : (sign : Additive) (a b : ℤ) (s : State) → added sign (Int a) (Int b) s ≡ Gave (Int (added_numbers sign a b)) s
-added_is Plus a b s = refl
-added_is Minus a b s = refl
+-- what holds of a call's value gives what holds of it next
+pub if_ok : {A E : Type 0} {P Q : A → Type 0} (r : Result A E) → ((a : A) → P a → Q a) → IfOk r P → IfOk r Q
+if_ok (Ok a) f p = f a p
+if_ok (Err e) f p = tt
 
-mutual
-  pub run_value : (t : Tree) (s : State) → run t s ≡ Gave (Int (value_of t)) s
-  run_value (number n) s = refl
-  run_value (product first more) s = ap (λ o. bind o (λ v. run_product v more)) (run_value first s) ∙ run_product_value (value_of first) more s
-  run_value (sum first more) s = ap (λ o. bind o (λ v. run_sum v more)) (run_value first s) ∙ run_sum_value (value_of first) more s
+with_text : (o p : Option (List ℕ)) (t : List ℕ) → shown_with o (shown_with p (Some t)) ≡ shown_with (shown_with o p) (Some t)
+with_text None p t = refl
+with_text (Some a) None t = refl
+with_text (Some a) (Some b) t = ap Some (sym (append_assoc a b t))
 
-  pub run_product_value : (m : ℤ) (ts : Trees) (s : State) → run_product (Int m) ts s ≡ Gave (Int (product_of m ts)) s
-  run_product_value m no_trees s = refl
-  run_product_value m (tree t ts) s =
-      ap (λ o. bind o (λ w s. bind (multiplied (Int m) w s) (λ x. run_product x ts))) (run_value t s)
-      ∙ run_product_value (wrapped (m *ℤ value_of t)) ts s
+shown_last : (p : Printed) (t : List ℕ) → shown_item p ≡ Some t → shown_with (shown_item p) (Some []) ≡ Some t
+shown_last p t e = ap (λ o. shown_with o (Some [])) e ∙ ap Some (append-nil t)
 
-  pub run_sum_value : (m : ℤ) (ts : Terms) (s : State) → run_sum (Int m) ts s ≡ Gave (Int (sum_of m ts)) s
-  run_sum_value m no_terms s = refl
-  run_sum_value m (term sign t ts) s =
-      ap (λ o. bind o (λ w s. bind (added sign (Int m) w s) (λ x. run_sum x ts))) (run_value t s)
-      ∙ ap (λ o. bind o (λ x. run_sum x ts)) (added_is sign m (value_of t) s)
-      ∙ run_sum_value (added_numbers sign m (value_of t)) ts s
+pub shown_more : (found : List Printed) (p : Printed) (t : List ℕ) → shown_item p ≡ Some t → shown_all (found ++ p ∷ []) ≡ shown_with (shown_all found) (Some t)
+shown_more [] p t e = shown_last p t e
+shown_more (v ∷ vs) p t e = ap (shown_with (shown_item v)) (shown_more vs p t e) ∙ with_text (shown_item v) (shown_all vs) t
 
-abbrev pub values_of : Trees → List Value
-values_of no_trees = []
-values_of (tree t ts) = Int (value_of t) ∷ values_of ts
-
-abbrev pub items_text : Trees → List ℕ
-items_text no_trees = []
-items_text (tree t ts) = signed_decimal (value_of t) ++ items_text ts
-
-shown_values : (ts : Trees) → shown_all (values_of ts) ≡ Some (items_text ts)
-shown_values no_trees = refl
-shown_values (tree t ts) = ap (shown_with (Some (signed_decimal (value_of t)))) (shown_values ts)
-
-run_items_found : (found : List Value) (ts : Trees) (s : State) → run_items found ts s ≡ print_text (shown_all (found ++ values_of ts)) s
-run_items_found found no_trees s = ap (λ vs. print_text (shown_all vs) s) (sym (append-nil found))
-run_items_found found (tree t ts) s =
-    ap (λ o. bind o (λ v. run_items (found ++ v ∷ []) ts)) (run_value t s)
-    ∙ run_items_found (found ++ Int (value_of t) ∷ []) ts s
-    ∙ ap (λ vs. print_text (shown_all vs) s) (append_assoc found (Int (value_of t) ∷ []) (values_of ts))
-
-abbrev pub top_text : TopTree → List ℕ
-top_text (println items) = items_text items
-
-pub run_top_asks : (t : TopTree) (s : State) → run_top t s ≡ ask (Print (top_text t)) None s
-run_top_asks (println items) s = run_items_found [] items s ∙ ap (λ o. print_text o s) (shown_values items)
+-- one item more
+pub item_goes : (xs : List Item) (i : ℕ) (x : Item) (line more : List ℕ) (whole : State → Out) → i < length xs → x ≡ slice_index_or xs i x
+    → (t : List ℕ) × (more ≡ line ++ t) × Shows (item_view x) t
+    → (are_items (item_views (drop i xs)) ≡ true) × ((found : List Printed) × (shown_all found ≡ Some line) × ((s : State) → run_items found (item_views (drop i xs)) s ≡ whole s))
+    → (are_items (item_views (drop (i + 1) xs)) ≡ true) × ((found : List Printed) × (shown_all found ≡ Some more) × ((s : State) → run_items found (item_views (drop (i + 1) xs)) s ≡ whole s))
+item_goes xs i x line more whole within is shows before =
+    let rest = drop (i + 1) xs in
+    let at = at_drop_more (λ zs. zs) xs i x within ∙ ap (λ z. z ∷ rest) (sym is) in
+    let found = before.1.0 in
+    let p = shows.2.0 in (
+      both_true (is_item (item_view x)) (are_items (item_views rest)) (ap (λ zs. are_items (item_views zs)) (sym at) ∙ before.0),
+      (
+        found ++ p ∷ [],
+        shown_more found p shows.0 shows.2.1 ∙ ap (λ o. shown_with o (Some shows.0)) before.1.1 ∙ ap Some (sym shows.1),
+        λ s. sym (shows.2.2 (λ q. run_items (found ++ q ∷ []) (item_views rest)) s) ∙ ap (λ zs. run_items found (item_views zs) s) (sym at) ∙ before.1.2 s,
+      ),
+    )

@@ -10,9 +10,10 @@ use Rattle.jt_base.specs.declared.operation.Op.TheVariants.{Begin, End, Fail, Pr
 use Rattle.jt_base.specs.declared.operation.Reply.{Reply}
 use Rattle.jt_base.specs.declared.operation.Reply.TheVariants as reply
 use Rattle.jt_num.specs.Wrapping.{wrapped}
-use Rattle.jt_syntax.specs.declared.script.Additive.{Additive}
-use Rattle.jt_syntax.specs.declared.script.Additive.TheVariants.{Plus, Minus}
-use Rattle.jt_syntax.specs.Tree.{Tree, Trees, Terms, TopTree, number, product, sum, no_trees, tree, no_terms, term, println}
+use Rattle.jt_syntax.specs.Tree.{Tree, Trees, Terms, TopTree, number, chain, println, no_trees, tree, no_terms, term, plain}
+use Rattle.jt_syntax.specs.Tree as syntax
+use Rattle.jt_syntax.specs.declared.token.Sign.{Sign}
+use Rattle.jt_syntax.specs.declared.token.Sign.TheVariants as sign
 use Rattle.jt_step.specs.declared.start.Start.{Start}
 use Rattle.jt_step.specs.State.{Out, Gave, Faulted, Asks, Done, Unfit, Step, bind}
 
@@ -37,12 +38,16 @@ abbrev pub number_with : (ℤ → ℤ → ℤ) → Value → Value → Step
 number_with f (Int a) (Int b) s = Gave (Int (wrapped (f a b))) s
 number_with f a b s = Faulted Method s
 
-abbrev pub added : Additive → Value → Value → Step
-added Plus = number_with (λ a b. a +ℤ b)
-added Minus = number_with (λ a b. a -ℤ b)
+-- forms without a meaning here, which no script that runs has
+abbrev pub meaningless : Step
+meaningless s = Unfit
 
-abbrev pub multiplied : Value → Value → Step
-multiplied = number_with (λ a b. a *ℤ b)
+-- an operator's value, by its sign
+abbrev pub operated : Sign → Value → Value → Step
+operated sign.Plus = number_with (λ a b. a +ℤ b)
+operated sign.Minus = number_with (λ a b. a -ℤ b)
+operated sign.Star = number_with (λ a b. a *ℤ b)
+operated _ = λ v w. meaningless
 
 -- the text that `println` writes for a value
 abbrev pub shown : Value → Option (List ℕ)
@@ -57,10 +62,19 @@ shown_with (Some t) (Some u) = Some (t ++ u)
 shown_with None u = None
 shown_with (Some t) None = None
 
+-- an item of `println`: a value, or a string
+pub data Printed : Type 0 where
+  value_item : Value → Printed
+  text_item : List ℕ → Printed
+
+abbrev pub shown_item : Printed → Option (List ℕ)
+shown_item (value_item v) = shown v
+shown_item (text_item t) = Some t
+
 -- items in a row
-abbrev pub shown_all : List Value → Option (List ℕ)
+abbrev pub shown_all : List Printed → Option (List ℕ)
 shown_all [] = Some []
-shown_all (v ∷ vs) = shown_with (shown v) (shown_all vs)
+shown_all (v ∷ vs) = shown_with (shown_item v) (shown_all vs)
 
 abbrev pub print_text : Option (List ℕ) → Step
 print_text (Some text) s = ask (Print text) None s
@@ -70,24 +84,28 @@ abbrev mutual
   -- an expression; operands from left to right
   pub run : Tree → Step
   run (number n) s = Gave (Int (wrapped (pos n))) s
-  run (product first more) s = bind (run first s) (λ v. run_product v more)
-  run (sum first more) s = bind (run first s) (λ v. run_sum v more)
+  run (chain c first more) s = bind (run first s) (λ v. run_chain v more)
+  run _ s = meaningless s
 
-  pub run_product : Value → Trees → Step
-  run_product v no_trees s = Gave v s
-  run_product v (tree t ts) s = bind (run t s) (λ w s. bind (multiplied v w s) (λ x. run_product x ts))
+  pub run_chain : Value → Terms → Step
+  run_chain v no_terms s = Gave v s
+  run_chain v (term sign t ts) s = bind (run t s) (λ w s. bind (operated sign v w s) (λ x. run_chain x ts))
 
-  pub run_sum : Value → Terms → Step
-  run_sum v no_terms s = Gave v s
-  run_sum v (term sign t ts) s = bind (run t s) (λ w s. bind (added sign v w s) (λ x. run_sum x ts))
+-- an item, and what goes on with it
+abbrev pub run_item : Tree → (Printed → Step) → Step
+run_item (syntax.text t) k s = k (text_item t) s
+run_item (number n) k s = bind (run (number n) s) (λ v. k (value_item v))
+run_item (chain c first more) k s = bind (run (chain c first more) s) (λ v. k (value_item v))
+run_item _ k s = meaningless s
 
 -- items are evaluated from left to right, and then printed in a row
-abbrev pub run_items : List Value → Trees → Step
+abbrev pub run_items : List Printed → Trees → Step
 run_items found no_trees s = print_text (shown_all found) s
-run_items found (tree t ts) s = bind (run t s) (λ v. run_items (found ++ v ∷ []) ts)
+run_items found (tree t ts) s = run_item t (λ p. run_items (found ++ p ∷ []) ts) s
 
 abbrev pub run_top : TopTree → Step
-run_top (println items) s = run_items [] items s
+run_top (at, plain (syntax.value (println items))) s = run_items [] items s
+run_top _ s = meaningless s
 
 -- statements one after another; the value of the last one, `nothing` if there is none
 abbrev pub run_tops : Value → List TopTree → Step

@@ -1,6 +1,8 @@
 //! A task that runs, stopped between its operations.
 
-ghost use Rattle.std.specs.Prelude.{◌≡◌, ◌<◌, ◌++◌, ◌∷◌, [], map, Some, IsSome, IfOk, OnErr};
+ghost use Rattle.std.specs.Prelude.{◌≡◌, ◌<◌, ◌++◌, ◌∷◌, [], map, Some, None, IsSome, IfOk, OnErr};
+ghost use Rattle.jt_syntax.specs.Built.{unbuilt};
+ghost use Rattle.jt_syntax.specs.View.{script_view};
 ghost use Rattle.jt_base.specs.declared.entry.Note.{Note};
 ghost use Rattle.jt_step.specs.Tasks.{told, coming, coming_with};
 
@@ -20,7 +22,7 @@ pub enum Advance {
     Over,
 }
 
-/// A task of a script, with the notes of its operations so far.
+/// A task of a script all of whose forms run, with the notes of its operations so far.
 #[derive(Drop)]
 pub struct TaskRun<'p> {
     script: &'p Script,
@@ -30,23 +32,27 @@ pub struct TaskRun<'p> {
 }
 
 impl<'p> Model for TaskRun<'p> {
-    ghost use Rattle.std.specs.Prelude.{◌-◌, vec_capacity, length, IsSome};
+    ghost use Rattle.std.specs.Prelude.{◌≡◌, ◌-◌, vec_capacity, length, None, IsSome};
+    ghost use Rattle.jt_syntax.specs.Built.{unbuilt};
+    ghost use Rattle.jt_syntax.specs.View.{script_view};
     ghost use Rattle.jt_step.specs.Tasks.{Task, coming_of};
     ghost use Rattle.jt_syntax.specs.contracts.script.Expr as expressions;
+    ghost use Rattle.jt_syntax.specs.contracts.script.Stmt as statements;
     ghost use Rattle.std.specs.Coded.{codes};
 
     ghost Value = { Task };
 
-    ghost coded = { Prim.hlevel (codes, expressions.the_row.coded) };
+    ghost coded = { Prim.hlevel (codes, expressions.the_row.coded, statements.the_row.coded) };
 
     ghost view = { λ t. record { script = t.script.now; start = t.start; log = t.log.items; room = vec_capacity t.log - length t.log.items } };
 
-    ghost invariant = { λ t. IsSome (coming_of t.script.now t.start t.log.items) };
+    ghost invariant = { λ t. (unbuilt (script_view t.script.now) ≡ None) × IsSome (coming_of t.script.now t.start t.log.items) };
 }
 
 impl<'p> TaskRun<'p> {
     /// The main task at its beginning, with an empty log.
     pub fn start(alloc: Global, script: &'p Script, start: Start) -> TaskRun<'p>
+        requires built { unbuilt (script_view script.now) ≡ None }
         ensures script { result.script ≡ script.now }
         ensures start { result.start ≡ start }
         ensures log { result.log ≡ [] }

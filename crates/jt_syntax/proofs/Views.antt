@@ -1,16 +1,78 @@
--- The plain data of an expression, form by form.
-use Rattle.std.proofs.Common.{◌≡◌, ℕ, List, rules}
-use Rattle.jt_syntax.specs.Tree.{number, product, sum}
-use Rattle.jt_syntax.specs.View.{view, views, term_views}
-use Rattle.jt_syntax.specs.declared.script.Additive.{Additive}
+-- The plain data of trees, form by form.
+use Rattle.std.proofs.Common.{◌≡◌, ℕ, List, Option, Some, None, rules}
+use Rattle.std.specs.Prelude.{map}
+use Rattle.jt_syntax.specs.Tree as tree
+use Rattle.jt_syntax.specs.View.{view, views, item_view, item_views, term_view, terms_of, operands_of, stmt_view, stmt_views, arms_of, arm_view, jump_view, connective_class, connective_sign, shift_sign, product_sign, sum_sign, comparison_sign}
+use Rattle.jt_syntax.specs.declared.operator.ShiftOperator.{ShiftOperator}
+use Rattle.jt_syntax.specs.declared.operator.ProductOperator.{ProductOperator}
+use Rattle.jt_syntax.specs.declared.operator.SumOperator.{SumOperator}
+use Rattle.jt_syntax.specs.declared.operator.ComparisonOperator.{ComparisonOperator}
+use Rattle.jt_syntax.specs.declared.operator.Connective.{Connective}
+use Rattle.jt_syntax.specs.declared.token.Sign.TheVariants as sign
+use Rattle.jt_syntax.specs.declared.script.Identifier.{Identifier}
+use Rattle.jt_syntax.specs.declared.script.Schedule.{Schedule}
 use Rattle.jt_syntax.specs.declared.script.Expr.{Expr, the_lemmas}
-use Rattle.jt_syntax.specs.declared.script.Expr.TheVariants.{Number, Product, Sum}
+use Rattle.jt_syntax.specs.declared.script.Expr.TheVariants as expr
+use Rattle.jt_syntax.specs.declared.script.Item.{Item}
+use Rattle.jt_syntax.specs.declared.script.Item.TheVariants as item
+use Rattle.jt_syntax.specs.declared.script.Arm.{Arm}
+use Rattle.jt_syntax.specs.declared.script.Jump.{Jump}
+use Rattle.jt_syntax.specs.declared.script.Stmt.{Stmt}
+use Rattle.jt_syntax.specs.declared.script.Stmt.TheVariants as stmt
 
-pub view-Number : (n : ℕ) → view (Number n) ≡ number n
+pub view-Number : (n : ℕ) → view (expr.Number n) ≡ tree.number n
 view-Number n = search (rules, the_lemmas)
 
-pub view-Product : (e : Expr) (es : List Expr) → view (Product e es) ≡ product (view e) (views es)
+pub view-Call : (i : Identifier) (es : List Expr) → view (expr.Call i es) ≡ tree.call i (views es)
+view-Call i es = search (rules, the_lemmas)
+
+pub view-Println : (es : List Item) → view (expr.Println es) ≡ tree.println (item_views es)
+view-Println es = search (rules, the_lemmas)
+
+pub view-Text : (t : List ℕ) → item_view (item.Text t) ≡ tree.text t
+view-Text t = search (rules, the_lemmas)
+
+pub view-Value : (e : Expr) → item_view (item.Value e) ≡ view e
+view-Value e = search (rules, the_lemmas)
+
+pub view-Shift : (e : Expr) (es : List (ShiftOperator × Expr)) → view (expr.Shift e es) ≡ tree.chain tree.shift (view e) (terms_of shift_sign (map term_view es))
+view-Shift e es = search (rules, the_lemmas)
+
+pub view-Product : (e : Expr) (es : List (ProductOperator × Expr)) → view (expr.Product e es) ≡ tree.chain tree.product (view e) (terms_of product_sign (map term_view es))
 view-Product e es = search (rules, the_lemmas)
 
-pub view-Sum : (e : Expr) (ts : List (Additive × Expr)) → view (Sum e ts) ≡ sum (view e) (term_views ts)
-view-Sum e ts = search (rules, the_lemmas)
+pub view-Sum : (e : Expr) (es : List (SumOperator × Expr)) → view (expr.Sum e es) ≡ tree.chain tree.sum (view e) (terms_of sum_sign (map term_view es))
+view-Sum e es = search (rules, the_lemmas)
+
+pub view-Comparison : (e : Expr) (es : List (ComparisonOperator × Expr)) → view (expr.Comparison e es) ≡ tree.chain tree.comparison (view e) (terms_of comparison_sign (map term_view es))
+view-Comparison e es = search (rules, the_lemmas)
+
+pub view-And : (e : Expr) (es : List Expr) → view (expr.And e es) ≡ tree.chain tree.and (view e) (operands_of sign.AndAlso (map view es))
+view-And e es = search (rules, the_lemmas)
+
+pub view-Or : (e : Expr) (es : List Expr) → view (expr.Or e es) ≡ tree.chain tree.or (view e) (operands_of sign.OrElse (map view es))
+view-Or e es = search (rules, the_lemmas)
+
+pub view-Block : (ss : List Stmt) → view (expr.Block ss) ≡ tree.block (stmt_views ss)
+view-Block ss = search (rules, the_lemmas)
+
+pub view-If : (c : Expr) (ss : List Stmt) (arms : List Arm) → view (expr.If c ss arms None) ≡ tree.branches (view c) (stmt_views ss) (arms_of (map arm_view arms) tree.no_arms)
+view-If c ss arms = search (rules, the_lemmas)
+
+pub view-If-else : (c : Expr) (ss : List Stmt) (arms : List Arm) (last : List Stmt) → view (expr.If c ss arms (Some last)) ≡ tree.branches (view c) (stmt_views ss) (arms_of (map arm_view arms) (tree.otherwise (stmt_views last)))
+view-If-else c ss arms last = search (rules, the_lemmas)
+
+pub view-While : (c : Expr) (ss : List Stmt) → view (expr.While c ss) ≡ tree.while (view c) (stmt_views ss)
+view-While c ss = search (rules, the_lemmas)
+
+pub view-ForRange : (i : Identifier) (a b : Expr) (ss : List Stmt) → view (expr.ForRange i a b ss) ≡ tree.for_range i (view a) (view b) (stmt_views ss)
+view-ForRange i a b ss = search (rules, the_lemmas)
+
+pub view-ForEach : (i : Identifier) (e : Expr) (ss : List Stmt) → view (expr.ForEach i e ss) ≡ tree.for_each i (view e) (stmt_views ss)
+view-ForEach i e ss = search (rules, the_lemmas)
+
+pub view-Threads : (at : ℕ) (s : Option Schedule) (i : Identifier) (a b : Expr) (ss : List Stmt) → view (expr.Threads at s i a b ss) ≡ tree.threads at s i (view a) (view b) (stmt_views ss)
+view-Threads at s i a b ss = search (rules, the_lemmas)
+
+pub view-Guard : (c : Connective) (e : Expr) (es : List Expr) (j : Jump) → stmt_view (stmt.Guard c e es j) ≡ tree.guard (connective_class c) (view e) (operands_of (connective_sign c) (map view es)) (jump_view j)
+view-Guard c e es j = search (rules, the_lemmas)

@@ -1,6 +1,16 @@
-//! Trees of scripts, as the parser makes them and the evaluator walks them.
+//! Tokens and trees of scripts, as the lexer and the parser make them and all that comes behind
+//! them walks them.
 #![tactic(auto)]
 
+mod built;
+mod operator;
 mod script;
+mod token;
 
-pub use script::{Additive, Expr, Script, Top};
+pub use built::unbuilt;
+pub use operator::{
+    AssignmentOperator, ComparisonOperator, Connective, ProductOperator, ShiftOperator,
+    SumOperator, UnaryOperator,
+};
+pub use script::{Arm, Expr, Identifier, Item, Jump, Pool, Schedule, Script, Stmt, Top, TopForm};
+pub use token::{Sign, Token, TokenKind};

@@ -1,14 +1,23 @@
 -- An accepted script, and no fault that was counted, leave two answers.
-use Rattle.std.proofs.Common.{◌≡◌, ℕ, ◌+◌, ◌≤◌, ◌↔◌, ◌⊎◌, inl, inr, List, ◌++◌, length, Option, Some, None, refl, ap, ◌∙◌, subst, arith}
+use Rattle.std.proofs.Common.{◌≡◌, ℕ, ◌+◌, ◌≤◌, ◌↔◌, ◌⊎◌, inl, inr, List, ◌++◌, length, Option, Some, None, Result, Ok, Err, IsUtf8, refl, sym, ap, ◌∙◌, subst, arith}
 use Rattle.std.proofs.lemmas.List.{append-nil, length-append}
 use Rattle.jt_base.specs.declared.entry.Entry.{Entry}
 use Rattle.jt_base.specs.Outside.{ReadsToEnd, Gives}
-use Rattle.jt_parser.specs.Form.{IsScriptOf}
+use Rattle.jt_grammar.specs.Joined.{IsScriptOf, IsUnexpected, IsTooDeep}
+use Rattle.jt_grammar.proofs.Main.{lines_only}
+use Rattle.jt_grammar.proofs.OneRefusal.{not_unexpected, not_too_deep}
+use Rattle.jt_printer.proofs.Whole.{not_both}
+use Rattle.jt_lexer.proofs.TokenLaws.{tokens_read}
+use Rattle.jt_lexer.specs.Tokens.{IsTokensOf}
+use Rattle.jt_lexer.specs.declared.error.LexError.TheVariants as lexical
+use Rattle.jt_syntax.specs.Built.{unbuilt}
 use Rattle.jt_syntax.specs.Tree.{TopTree}
-use Rattle.julia_tasks.specs.declared.report.Refusal.TheVariants.{NotBuilt}
+use Rattle.jt_syntax.specs.declared.token.Token.{Token}
+use Rattle.julia_tasks.specs.declared.report.Refusal.{Refusal}
+use Rattle.julia_tasks.specs.declared.report.Refusal.TheVariants.{BadCharacter, OpenString, NumberTooLarge, Unexpected, TooDeep, NotBuilt}
 use Rattle.julia_tasks.specs.declared.report.Status.{Status}
-use Rattle.julia_tasks.specs.declared.report.Status.TheVariants.{Ok, Usage, Refused, ReadFault, WriteFault, OutOfMemory, TooLarge}
-use Rattle.julia_tasks.specs.Tool.{Answers, WasRead, IsAccepted, most_script}
+use Rattle.julia_tasks.specs.declared.report.Status.TheVariants.{Ok as Fine, Usage, Refused, ReadFault, WriteFault, OutOfMemory, TooLarge, NotText}
+use Rattle.julia_tasks.specs.Tool.{Answers, WasRead, IsAccepted, IsScriptText, IsRefused, most_script, most_open}
 
 -- what a source gave is no more than what was left
 not_too_many : (before after : Option (List ℕ)) → IsAccepted before → Gives before after (most_script + 1) → ⊥
@@ -26,22 +35,59 @@ all_read : (bytes read : List ℕ) (after : Option (List ℕ)) → ReadsToEnd (S
 all_read bytes read None h = absurd (h.0)
 all_read bytes read (Some rest) h = h.0 ∙ ap (λ r. read ++ r) h.1 ∙ append-nil read
 
-not_refused : (before after : Option (List ℕ)) (read : List ℕ) → IsAccepted before → ReadsToEnd before after read → ((script : List TopTree) → IsScriptOf read script → ⊥) → ⊥
-not_refused None after read accepted h none = accepted
-not_refused (Some bytes) after read accepted h none =
-    let P : List ℕ → Type 0 = λ b. IsScriptOf b accepted.1.0 in
-    none accepted.1.0 (subst P (all_read bytes read after h) accepted.1.1)
+-- one text has one list of tokens
+ok_is : {A E : Type 0} → A → Result A E → A
+ok_is a (Ok x) = x
+ok_is a (Err e) = a
+
+one_list : (text : List ℕ) (ts us : List Token) → IsTokensOf text ts → IsTokensOf text us → ts ≡ us
+unfolding ok_is
+one_list text ts us t u = ap (ok_is ts) (sym (tokens_read text ts t) ∙ tokens_read text us u)
+
+-- a script all of whose forms run is not refused
+not_refused : (bytes : List ℕ) (ts : List Token) (tops : List TopTree) (kind : Refusal) (at : ℕ) → IsScriptText bytes ts tops → unbuilt tops ≡ None → IsRefused bytes kind at → ⊥
+not_refused bytes ts tops BadCharacter at is built r = not_both bytes ts (lexical.BadCharacter at) is.lexed r
+not_refused bytes ts tops OpenString at is built r = not_both bytes ts (lexical.OpenString at) is.lexed r
+not_refused bytes ts tops NumberTooLarge at is built r = not_both bytes ts (lexical.NumberTooLarge at) is.lexed r
+not_refused bytes ts tops Unexpected at is built r =
+    let same = one_list bytes ts r.0 is.lexed r.2 in
+    let P : List Token → Type 0 = λ us. IsUnexpected most_open us r.1 in
+    not_unexpected most_open ts r.1 tops is.parsed is.nested (subst P (sym same) r.3)
+not_refused bytes ts tops TooDeep at is built r =
+    let same = one_list bytes ts r.0 is.lexed r.2 in
+    let P : List Token → Type 0 = λ us. IsTooDeep most_open us r.1 in
+    not_too_deep most_open ts r.1 tops is.parsed is.nested (subst P (sym same) r.3)
+not_refused bytes ts tops NotBuilt at is built r =
+    let same = one_list bytes ts r.0 is.lexed r.2.lexed in
+    let P : List Token → Type 0 = λ us. IsScriptOf us r.1 in
+    let tree : tops ≡ r.1 = lines_only ts tops r.1 is.parsed (subst P (sym same) r.2.parsed) in
+    absurd (none_some (sym built ∙ ap unbuilt tree ∙ r.3))
+  where
+    none_some : {n : ℕ} → None ≡ Some n → ⊥
+    none_some q = cc
+
+not_refused_source : (before after : Option (List ℕ)) (read : List ℕ) (kind : Refusal) (at : ℕ) → IsAccepted before → ReadsToEnd before after read → IsRefused read kind at → ⊥
+not_refused_source None after read kind at accepted h r = accepted
+not_refused_source (Some bytes) after read kind at accepted h r =
+    let P : List ℕ → Type 0 = λ b. IsRefused b kind at in
+    not_refused bytes accepted.1 accepted.2 kind at accepted.3 accepted.4 (subst P (sym (all_read bytes read after h)) r)
+
+text_source : (before after : Option (List ℕ)) (read : List ℕ) → IsAccepted before → ReadsToEnd before after read → (IsUtf8 read → ⊥) → ⊥
+text_source None after read accepted h no_text = accepted
+text_source (Some bytes) after read accepted h no_text = no_text (subst IsUtf8 (all_read bytes read after h) accepted.3.text)
 
 pub completes : (run read_rose wrote_rose : Type 0) (status : Status) (history : List Entry) (before after out_before out_after : Option (List ℕ))
     → (status ≡ Usage ↔ (run → ⊥)) → (status ≡ ReadFault → read_rose) → (status ≡ TooLarge → Gives before after (most_script + 1))
     → (WasRead status → (bytes : List ℕ) × ReadsToEnd before after bytes × (length bytes ≤ most_script) × Answers bytes status history out_before out_after)
     → (status ≡ WriteFault → wrote_rose)
-    → run → (read_rose → ⊥) → (wrote_rose → ⊥) → IsAccepted before → (status ≡ Ok) ⊎ (status ≡ OutOfMemory)
-completes run rr wr Ok history b a ob oa usage read large whole write is_run no_read no_write accepted = inl refl
+    → run → (read_rose → ⊥) → (wrote_rose → ⊥) → IsAccepted before → (status ≡ Fine) ⊎ (status ≡ OutOfMemory)
+completes run rr wr Fine history b a ob oa usage read large whole write is_run no_read no_write accepted = inl refl
 completes run rr wr OutOfMemory history b a ob oa usage read large whole write is_run no_read no_write accepted = inr refl
 completes run rr wr Usage history b a ob oa usage read large whole write is_run no_read no_write accepted = absurd (usage.0 refl is_run)
 completes run rr wr ReadFault history b a ob oa usage read large whole write is_run no_read no_write accepted = absurd (no_read (read refl))
 completes run rr wr WriteFault history b a ob oa usage read large whole write is_run no_read no_write accepted = absurd (no_write (write refl))
 completes run rr wr TooLarge history b a ob oa usage read large whole write is_run no_read no_write accepted = absurd (not_too_many b a accepted (large refl))
-completes run rr wr (Refused NotBuilt at) history b a ob oa usage read large whole write is_run no_read no_write accepted =
-    let w = whole tt in absurd (not_refused b a w.0 accepted w.1 w.3.1)
+completes run rr wr (Refused kind at) history b a ob oa usage read large whole write is_run no_read no_write accepted =
+    let w = whole tt in absurd (not_refused_source b a w.0 kind at accepted w.1 w.3.1)
+completes run rr wr NotText history b a ob oa usage read large whole write is_run no_read no_write accepted =
+    let w = whole tt in absurd (text_source b a w.0 accepted w.1 w.3)

@@ -2,9 +2,9 @@
 use Rattle.std.specs.Prelude.{ℕ, List, [], ◌++◌, codes}
 use Rattle.std.specs.Fmt.{decimal}
 use Rattle.julia_tasks.specs.declared.report.Refusal.{Refusal}
-use Rattle.julia_tasks.specs.declared.report.Refusal.TheVariants.{NotBuilt}
+use Rattle.julia_tasks.specs.declared.report.Refusal.TheVariants.{BadCharacter, OpenString, NumberTooLarge, Unexpected, TooDeep, NotBuilt}
 use Rattle.julia_tasks.specs.declared.report.Status.{Status}
-use Rattle.julia_tasks.specs.declared.report.Status.TheVariants.{Ok, Usage, Refused, ReadFault, WriteFault, OutOfMemory, TooLarge}
+use Rattle.julia_tasks.specs.declared.report.Status.TheVariants.{Ok, Usage, Refused, ReadFault, WriteFault, OutOfMemory, TooLarge, NotText}
 
 abbrev pub number_of : Status → ℕ
 number_of Ok = 0
@@ -14,8 +14,14 @@ number_of ReadFault = 4
 number_of WriteFault = 5
 number_of OutOfMemory = 8
 number_of TooLarge = 9
+number_of NotText = 10
 
 abbrev pub kind_of : Refusal → List ℕ
+kind_of BadCharacter = codes "bad-character"
+kind_of OpenString = codes "open-string"
+kind_of NumberTooLarge = codes "number-too-large"
+kind_of Unexpected = codes "unexpected"
+kind_of TooDeep = codes "too-deep"
 kind_of NotBuilt = codes "not-built"
 
 -- one line that begins with the program's name
@@ -30,3 +36,4 @@ note_of ReadFault = line (codes "reading failed")
 note_of WriteFault = line (codes "writing failed")
 note_of OutOfMemory = line (codes "out of memory")
 note_of TooLarge = line (codes "input too large")
+note_of NotText = line (codes "not UTF-8")

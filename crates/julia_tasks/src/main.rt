@@ -1,6 +1,8 @@
 //! The program `julia-tasks`: runs a script and writes its lines.
 #![tactic(auto)]
 
+#[cfg(test)]
+mod language_tests;
 mod note;
 mod reading;
 mod report;

@@ -34,6 +34,7 @@ pub fn note_text(status: &Status) -> ArrayString<LONGEST_NOTE>
         Status::WriteFault => note.push_str("writing failed"),
         Status::OutOfMemory => note.push_str("out of memory"),
         Status::TooLarge => note.push_str("input too large"),
+        Status::NotText => note.push_str("not UTF-8"),
     }
     note.push_str("\n");
     note

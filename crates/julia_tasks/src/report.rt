@@ -5,10 +5,21 @@ ghost use Rattle.julia_tasks.specs.Status.{number_of, kind_of};
 
 use jt_base::Entry;
 
-/// Why a script is refused.
+/// Why a script is refused. A place is that of the byte at which a token begins, but where another
+/// byte is named.
 #[derive(Clone, Copy, PartialEq, Eq, Debug)]
 pub enum Refusal {
-    /// The script has a form that isn't built yet.
+    /// No token begins or goes on with the character whose first byte stands here.
+    BadCharacter,
+    /// The string or comment that begins here isn't closed.
+    OpenString,
+    /// The number that begins here is greater than 9223372036854775807.
+    NumberTooLarge,
+    /// The tokens before this one begin a script, and with it they begin none.
+    Unexpected,
+    /// This opener is expected here, and is the 201st that is open.
+    TooDeep,
+    /// The form of the script that begins here isn't built yet.
     NotBuilt,
 }
 
@@ -19,13 +30,18 @@ impl Refusal {
         ensures short { length result.now ≤ 20 }
     {
         match self {
+            Refusal::BadCharacter => "bad-character",
+            Refusal::OpenString => "open-string",
+            Refusal::NumberTooLarge => "number-too-large",
+            Refusal::Unexpected => "unexpected",
+            Refusal::TooDeep => "too-deep",
             Refusal::NotBuilt => "not-built",
         }
     }
 }
 
 /// How a command ended.
-#[derive(Clone, Copy, PartialEq, Eq, Debug)]
+#[derive(Clone, Copy, PartialEq, Eq, Debug, Drop)]
 pub enum Status {
     /// The script's main task ended, and all lines were written.
     Ok,
@@ -41,6 +57,8 @@ pub enum Status {
     OutOfMemory,
     /// The source gave more bytes than a script may have.
     TooLarge,
+    /// The bytes that the source gave aren't UTF-8.
+    NotText,
 }
 
 impl Status {
@@ -56,6 +74,7 @@ impl Status {
             Status::WriteFault => 5,
             Status::OutOfMemory => 8,
             Status::TooLarge => 9,
+            Status::NotText => 10,
         }
     }
 }

@@ -5,8 +5,6 @@ use std::alloc::Global;
 use std::process::Abort;
 use std::test::Fail;
 
-const NOT_BUILT: Status = Status::Refused(Refusal::NotBuilt, 0);
-
 // What a command is given, and what it is to answer and to write.
 #[derive(Clone, Copy)]
 struct Case<'a> {
@@ -89,35 +87,41 @@ println(007, 0) => 70/
 println(4611686018427387904 * 2) => -9223372036854775808/
 println(4294967296 * 4294967296) => 0/
 println(9223372036854775807*3) => 9223372036854775805/
+println(1_000, \"a\\t\\\"b\\\" \\$\", 2 * 3) => 1000a\t\"b\" $6/
+println(\"\") => /
+println(\"ä\", \"≤\")  # a comment => ä≤/
+println(1,#= , 2 =# 3) => 13/
 println(0 - 9223372036854775807 - 2) => 9223372036854775807/
 ";
 
-// Texts that aren't of the form that is built.
-const REFUSED: &str = "\
-println
-println(1
-println(1,)
-println(,1)
-println(+1)
-println(-1)
-println(1 +)
-println((1))
-println(1)println(2)
-println(1) println(2)
-println(1)\tprintln(2)
-print(1)
-print ln(1)
-println(1 2)
-println(1_000)
-println(9223372036854775808)
-println(99999999999999999999)
-println(\"1\")
-x = 1
-println(1)\r
-println(\u{e4})
+// Scripts that are read and don't run yet, and the place of their first such form.
+const UNBUILT: &str = "\
+x = 1 => 0
+println(+1) => 0
+println(-1) => 0
+println((1)) => 0
+println(1); println(x) => 12
+println(1);; y => 13
+println(2 ÷ 1) => 0
+println(1 << 2) => 0
+println(2 ^ 3) => 0
+println(true) => 0
+print(1) => 0
+const a = 1 => 0
+using Base.Threads; println(1) => 0
 ";
 
-const NOT_BUILT_NOTE: &[u8] = b"julia-tasks: refused: not-built at 0\n";
+// A script with a form that doesn't run yet.
+fn check_unbuilt(rt: &impl Abort, alloc: Global, script: &str, place: u32) -> Result<(), Fail> {
+    let mut note = String::from_str(alloc, "julia-tasks: refused: not-built at ")?;
+    write!(note, "{place}\n")?;
+    let status = Status::Refused(Refusal::NotBuilt, place);
+    check(
+        rt,
+        alloc,
+        &given(script.as_bytes(), status, b"", note.as_str().as_bytes()),
+    )
+}
 
 #[test]
 fn scripts_print_their_sums(rt: HostRuntime) -> Result<(), Fail> {
@@ -136,20 +140,14 @@ fn scripts_print_their_sums(rt: HostRuntime) -> Result<(), Fail> {
             )?;
         }
     }
-    for row in REFUSED.split('\n') {
-        let (status, note) = if row.is_empty() {
-            (Status::Ok, b"".as_slice())
-        } else {
-            (NOT_BUILT, NOT_BUILT_NOTE)
-        };
-        check(&rt, rt.alloc(), &given(row.as_bytes(), status, b"", note))?;
+    for row in UNBUILT.split('\n') {
+        if let Some((script, place)) = row.split_once(" => ") {
+            check_unbuilt(&rt, rt.alloc(), script, place.parse().unwrap_or(0))?;
+        }
     }
-    for script in [b"println(\n1)".as_slice(), &[255], b"println(1)\n2"] {
-        check(
-            &rt,
-            rt.alloc(),
-            &given(script, NOT_BUILT, b"", NOT_BUILT_NOTE),
-        )?;
+    for bytes in [[255].as_slice(), b"println(\xc3)", b"\xed\xa0\x80"] {
+        let note = b"julia-tasks: not UTF-8\n";
+        check(&rt, rt.alloc(), &given(bytes, Status::NotText, b"", note))?;
     }
     let spaced = b"\n  \nprintln(1)\n\n;\nprintln(2)\n";
     check(&rt, rt.alloc(), &given(spaced, Status::Ok, b"1\n2\n", b""))

@@ -1,6 +1,6 @@
 //! The commands, from bytes to bytes.
 
-ghost use Rattle.std.specs.Prelude.{◌≡◌, ℕ, ◌+◌, ◌≤◌, ◌↔◌, IsTrue, ◌⊎◌, List, [], Some, None, length, map, string_bytes, codes, IfOk, IfErr};
+ghost use Rattle.std.specs.Prelude.{◌≡◌, ℕ, ◌+◌, ◌≤◌, ◌↔◌, IsTrue, ◌⊎◌, List, [], Some, None, length, map, string_bytes, codes, IsUtf8, IfOk, IfErr};
 ghost use Rattle.std.specs.Io.KnownBytes.{Appends};
 ghost use Rattle.jt_base.specs.Outside.{Rose, Gives, ReadsToEnd};
 ghost use Rattle.jt_base.specs.declared.operation.Op.TheVariants.{End};
@@ -10,10 +10,16 @@ ghost use Rattle.jt_laws.specs.Lines.{lines_of, main_end};
 ghost use Rattle.jt_step.specs.declared.start.Start.{Start};
 ghost use Rattle.jt_machine.specs.Runs.{plain_world, default_events};
 ghost use Rattle.julia_tasks.specs.declared.report.Status.TheVariants.{Ok, Usage, ReadFault, WriteFault, TooLarge, OutOfMemory as NoMemory};
-ghost use Rattle.jt_parser.specs.Form.{IsScriptOf};
+ghost use Rattle.jt_grammar.specs.Joined.{IsScriptOf};
+ghost use Rattle.jt_grammar.specs.Nesting.{TopsWithin};
+ghost use Rattle.jt_grammar.specs.Grammar.{EndsWithStop};
+ghost use Rattle.jt_lexer.specs.Tokens.{IsTokensOf};
+ghost use Rattle.jt_syntax.specs.Built.{unbuilt};
 ghost use Rattle.jt_syntax.specs.Tree.{TopTree};
+ghost use Rattle.jt_syntax.specs.View.{script_view};
+ghost use Rattle.jt_syntax.specs.declared.token.Token.{Token};
 ghost use Rattle.julia_tasks.specs.Status.{note_of};
-ghost use Rattle.julia_tasks.specs.Tool.{IsRun, IsRunOf, Answers, WasRead, WroteNothing, ComesAfterReading, IsAccepted, most_script, default_seeds};
+ghost use Rattle.julia_tasks.specs.Tool.{IsRun, IsRunOf, Answers, WasRead, WroteNothing, ComesAfterReading, IsAccepted, Stops, StopsTokens, most_script, most_open, default_seeds};
 
 use crate::note::{LONGEST_NOTE, note_text};
 use crate::reading::{ReadError, read_all};
@@ -21,9 +27,10 @@ use crate::report::{Refusal, Report, Status};
 use crate::writing::write_all;
 use arrayvec::ArrayString;
 use jt_base::{Entry, Gate, OutOfMemory, Seeds, Sink, Source, Text};
+use jt_lexer::{LexError, lex};
 use jt_machine::{lines, run_plain};
 use jt_parser::{ParseError, parse};
-use jt_syntax::Script;
+use jt_syntax::{Script, Token, unbuilt};
 use std::alloc::Global;
 use std::sync::Wait;
 use std::thread::Threads;
@@ -44,7 +51,8 @@ struct Ran {
 
 /// Runs a script.
 fn run_script(alloc: Global, script: &Script) -> Result<Ran, OutOfMemory>
-    requires { length script.now.tops + 2 ≤ default_events }
+    requires built { unbuilt (script_view script.now) ≡ None }
+    requires short { length script.now.tops + 2 ≤ default_events }
     ensures legal { IfOk result (λ ran. IsLegalHistory Start (plain_world script.now default_seeds) ran.history.items) }
     ensures ended { IfOk result (λ ran. main_end ran.history.items ≡ Some (End Nothing)) }
     ensures text { IfOk result (λ ran. ran.text ≡ lines_of ran.history.items) }
@@ -54,19 +62,51 @@ fn run_script(alloc: Global, script: &Script) -> Result<Ran, OutOfMemory>
     Ok(Ran { history, text })
 }
 
+/// The tokens of these bytes.
+pub(crate) fn tokens_of(alloc: Global, bytes: &[u8]) -> Result<Vec<Token>, Status>
+    requires { length bytes.now ≤ most_script }
+    ensures text { IfOk result (λ tokens. IsUtf8 bytes.now) }
+    ensures tokens { IfOk result (λ tokens. IsTokensOf bytes.now tokens.items) }
+    ensures whole { IfOk result (λ tokens. EndsWithStop tokens.items) }
+    ensures few { IfOk result (λ tokens. length tokens.items ≤ most_script + 1) }
+    ensures refused { IfErr result (Stops bytes.now) }
+{
+    match str::from_utf8(bytes) {
+        Ok(text) => {
+            let tokens = lex(alloc, text)?;
+            Ok(tokens)
+        }
+        Err(_) => Err(Status::NotText),
+    }
+}
+
+/// The script that these tokens of a text are, all of whose forms run.
+fn script_of(alloc: Global, tokens: &[Token]) -> Result<Script, Status>
+    requires whole { EndsWithStop tokens.now }
+    requires few { length tokens.now ≤ most_script + 1 }
+    ensures script { IfOk result (λ script. IsScriptOf tokens.now (script_view script)) }
+    ensures nested { IfOk result (λ script. TopsWithin most_open (script_view script)) }
+    ensures built { IfOk result (λ script. unbuilt (script_view script) ≡ None) }
+    ensures refused { IfErr result (StopsTokens tokens.now) }
+{
+    let script = parse(alloc, tokens)?;
+    match unbuilt(&script) {
+        Some(at) => Err(Status::Refused(Refusal::NotBuilt, at)),
+        None => Ok(script),
+    }
+}
+
 /// Runs the script that these bytes are.
 fn run_bytes(alloc: Global, bytes: &[u8]) -> Result<Ran, Status>
     requires { length bytes.now ≤ most_script }
     ensures run { IfOk result (λ ran. IsRunOf bytes.now ran.history.items) }
     ensures text { IfOk result (λ ran. ran.text ≡ lines_of ran.history.items) }
-    ensures nothing { IfErr result WroteNothing }
-    ensures refused { IfErr result (λ status. Answers bytes.now status [] None None) }
-    ensures later { IfErr result ComesAfterReading }
+    ensures refused { IfErr result (Stops bytes.now) }
 {
-    match parse(alloc, bytes) {
+    let tokens = tokens_of(alloc, bytes)?;
+    match script_of(alloc, tokens.as_slice()) {
         Ok(script) => Ok(run_script(alloc, &script)?),
-        Err(ParseError::NotBuilt) => Err(Status::Refused(Refusal::NotBuilt, 0)),
-        Err(ParseError::OutOfMemory) => Err(Status::OutOfMemory),
+        Err(status) => Err(status),
     }
 }
 
@@ -178,9 +218,10 @@ fn tell_after_writing<N: Sink>(
 /// memory.
 ///
 /// `Usage` comes exactly where `words` aren't the one word `run`, `ReadFault` only where a read of
-/// `source` failed, `TooLarge` exactly where it gives more bytes than the most, `Refused` exactly
-/// where the bytes are no script of the form that is built, and `WriteFault` only where a write to
-/// `out` failed; a prefix of the lines stands there then. With every other status but `Ok` nothing
+/// `source` failed, `TooLarge` exactly where it gives more bytes than the most, `NotText`
+/// exactly where the bytes aren't UTF-8, `Refused` exactly where the text has no tokens, its tokens
+/// are no script, or a form of the script isn't built yet, with the kind and the place of the first
+/// of these that holds, and `WriteFault` only where a write to `out` failed; a prefix of the lines stands there then. With every other status but `Ok` nothing
 /// is written to `out` and the history is empty. A failing write to `notes` changes nothing.
 pub fn plain_tool<S: Source, O: Sink, N: Sink>(
     alloc: Global,
@@ -241,6 +282,37 @@ impl From<OutOfMemory> for Status {
 
     fn from(_error: OutOfMemory) -> Status {
         Status::OutOfMemory
+    }
+}
+
+impl From<LexError> for Status {
+    ghost use Rattle.std.specs.Prelude.{◌≡◌};
+    ghost use Rattle.julia_tasks.specs.Tool.{status_of_lexing};
+
+    ghost from_gives = { λ e s. s ≡ status_of_lexing e };
+
+    fn from(error: LexError) -> Status {
+        match error {
+            LexError::BadCharacter(at) => Status::Refused(Refusal::BadCharacter, at),
+            LexError::OpenString(at) => Status::Refused(Refusal::OpenString, at),
+            LexError::NumberTooLarge(at) => Status::Refused(Refusal::NumberTooLarge, at),
+            LexError::OutOfMemory => Status::OutOfMemory,
+        }
+    }
+}
+
+impl From<ParseError> for Status {
+    ghost use Rattle.std.specs.Prelude.{◌≡◌};
+    ghost use Rattle.julia_tasks.specs.Tool.{status_of_parsing};
+
+    ghost from_gives = { λ e s. s ≡ status_of_parsing e };
+
+    fn from(error: ParseError) -> Status {
+        match error {
+            ParseError::Unexpected(at) => Status::Refused(Refusal::Unexpected, at),
+            ParseError::TooDeep(at) => Status::Refused(Refusal::TooDeep, at),
+            ParseError::OutOfMemory => Status::OutOfMemory,
+        }
     }
 }
 

@@ -19,7 +19,7 @@ loop-at-preserved c =
     let is : piece rest ≡ Ok (c.in-Ok.shape, n) = sym c.piece.ensures.value ∙ c.in-Ok.is in (
       goes _ c.loop-at.tokens.items c.push_piece.new.tokens.items bytes rest at c.in-Ok.shape n c.loop-at.invariant.0 (take_rest bytes at) is within.0 within.1 c.in_ok-push_piece-in-Ok.ensures,
       stays bytes rest at n (take_rest bytes at) c.loop-at.invariant.1 within.1,
-      found_more bytes rest at c.loop-at.tokens.items c.push_piece.new.tokens.items c.in-Ok.shape n c.loop-at.invariant.2 (take_rest bytes at) is within.0 within.1 c.in_ok-push_piece-in-Ok.ensures,
+      found_more bytes rest at c.loop-at.tokens.items c.push_piece.new.tokens.items c.in-Ok.shape n c.loop-at.invariant.2 (take_rest bytes at) is c.in_ok-push_piece-in-Ok.ensures,
       c.loop-at.invariant.3,
     )
 

@@ -23,7 +23,7 @@ loop-history-preserved c =
     (c.note.ensures.script ∙ c.reserve_note.ensures.script) (c.note.ensures.start ∙ c.reserve_note.ensures.start) log)
 
 pub returns-in-Over-clause-legal : goal.returns-in-Over-clause-legal
-returns-in-Over-clause-legal c = legal _ _ _ _ c.loop-history.invariant _ c.in-Over.is c.in_ok-op.ensures c.requires
+returns-in-Over-clause-legal c = legal _ _ _ _ c.loop-history.invariant _ c.in-Over.is c.in_ok-op.ensures c.requires.short
 
 pub returns-in-Over-clause-ended : goal.returns-in-Over-clause-ended
 returns-in-Over-clause-ended c = ended _ _ _ _ c.loop-history.invariant _ c.in-Over.is c.in_ok-op.ensures

@@ -1,9 +1,10 @@
 use Rattle.std.proofs.Common.{◌≡◌, ◌-◌, [], map}
-use Rattle.jt_parser.specs.Reader.{many_from, begins_statement, statement}
-use Rattle.jt_syntax.specs.View.{top_view}
+use Rattle.jt_syntax.specs.Tree.{no_steps, step}
+use Rattle.jt_syntax.specs.View.{stmt_view}
+use Rattle.jt_grammar.specs.Reader.{list_from, read_step}
 use Rattle.jt_parser.proofs.rules.Rules.statements.Given as goal
 
 abbrev pub invariant-loop-turn : goal.invariant-loop-turn
-invariant-loop-turn l =
-    many_from begins_statement (statement l.self.turns) l.self.turns [] l.fn.tokens
-    ≡ many_from begins_statement (statement l.self.turns) (l._turn-end - l._turn) (map top_view l.found) l.tokens
+invariant-loop-turn g l =
+    list_from l.self.turns (read_step l.self.turns l.self.depth) no_steps step l.self.turns [] l.fn.tokens
+    ≡ list_from l.self.turns (read_step l.self.turns l.self.depth) no_steps step (l._turn-end - l._turn) (map stmt_view l.found) l.tokens

@@ -1,0 +1,5 @@
+pub mod Grammar
+pub mod Nesting
+pub mod Joined
+pub mod Reader
+pub mod Printed

@@ -1,0 +1,3 @@
+pub mod Kinds
+pub mod Again
+pub mod Reread

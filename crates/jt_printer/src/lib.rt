@@ -1,0 +1,18 @@
+//! From the tree of a script to a text of that script.
+#![tactic(auto)]
+
+mod kinds;
+mod operator;
+mod print;
+mod reading;
+mod script;
+mod text;
+mod trees;
+
+pub use print::print_script;
+pub use reading::{RereadError, reread};
+pub use script::kinds_of;
+pub use text::spell;
+
+#[cfg(test)]
+mod tests;

@@ -1,0 +1,78 @@
+//! Reading again what was printed.
+
+ghost use Rattle.std.specs.Prelude.{◌+◌, ◌≤◌, List, length};
+ghost use Rattle.jt_grammar.specs.Grammar.{EndsWithStop};
+ghost use Rattle.jt_syntax.specs.Tree.{TopTree};
+ghost use Rattle.jt_syntax.specs.View.{script_view};
+ghost use Rattle.jt_printer.specs.Again.{WasRead, ReadsAs, IsSameScript};
+ghost use Rattle.jt_printer.specs.Reread.{most_text, most_open, IsReread};
+
+use crate::print::print_script;
+use jt_lexer::{LexError, lex};
+use jt_parser::{ParseError, parse};
+use jt_syntax::{Script, Token};
+use std::alloc::Global;
+
+/// The most bytes of a text that is read.
+const MOST_TEXT: usize = 1_048_576;
+
+/// Why a script that was printed isn't there again.
+#[derive(Clone, Copy, Debug, PartialEq, Eq, Drop)]
+pub enum RereadError {
+    /// The printed text has more than 1,048,576 bytes.
+    TooLong,
+    /// The printed text is no script. That doesn't come of a script that was read from a text.
+    NoScript,
+    /// There was no memory.
+    OutOfMemory,
+}
+
+/// Prints a script, and reads the text. Where the script was read from a text, it is the same again
+/// but for its places.
+///
+/// # Errors
+///
+/// `TooLong` exactly where the printed text is longer than a text that is read, and want of memory;
+/// `NoScript` for scripts made by hand alone.
+pub fn reread(alloc: Global, script: &Script) -> Result<Script, RereadError>
+    ensures again { WasRead most_open (script_view script.now) → IsReread (script_view script.now) result }
+{
+    let Ok(text) = print_script(alloc, script) else {
+        return Err(RereadError::OutOfMemory);
+    };
+    if text.len() > MOST_TEXT {
+        return Err(RereadError::TooLong);
+    }
+    read_bytes(alloc, text.as_slice())
+}
+
+/// The script that these bytes are.
+fn read_bytes(alloc: Global, bytes: &[u8]) -> Result<Script, RereadError>
+    requires { length bytes.now ≤ most_text }
+    ensures { (tops : List TopTree) → ReadsAs most_open tops bytes.now → IsReread tops result }
+{
+    let Ok(text) = str::from_utf8(bytes) else {
+        return Err(RereadError::NoScript);
+    };
+    match lex(alloc, text) {
+        Ok(tokens) => read_tokens(alloc, tokens.as_slice()),
+        Err(LexError::BadCharacter(_)) => Err(RereadError::NoScript),
+        Err(LexError::OpenString(_)) => Err(RereadError::NoScript),
+        Err(LexError::NumberTooLarge(_)) => Err(RereadError::NoScript),
+        Err(LexError::OutOfMemory) => Err(RereadError::OutOfMemory),
+    }
+}
+
+/// The script that these tokens are.
+fn read_tokens(alloc: Global, tokens: &[Token]) -> Result<Script, RereadError>
+    requires whole { EndsWithStop tokens.now }
+    requires few { length tokens.now ≤ most_text + 1 }
+    ensures { (tops : List TopTree) → IsSameScript most_open tops tokens.now → IsReread tops result }
+{
+    match parse(alloc, tokens) {
+        Ok(script) => Ok(script),
+        Err(ParseError::Unexpected(_)) => Err(RereadError::NoScript),
+        Err(ParseError::TooDeep(_)) => Err(RereadError::NoScript),
+        Err(ParseError::OutOfMemory) => Err(RereadError::OutOfMemory),
+    }
+}
