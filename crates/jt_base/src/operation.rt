@@ -1,9 +1,13 @@
 //! The operations by which a task acts on tasks and objects, and what they reply.
 
+ghost use Rattle.std.specs.Prelude.{◌≡◌, IfOk};
+
+use crate::memory::OutOfMemory;
 use crate::name::Name;
 use crate::path::Path;
 use crate::text::Text;
 use crate::value::Value;
+use std::alloc::Global;
 
 /// How a task is made.
 #[derive(Clone, Copy, PartialEq, Eq, Debug)]
@@ -53,6 +57,31 @@ pub enum Fault {
     StaticNested,
     /// A call of `error` with this text.
     Error(Text),
+}
+
+impl Fault {
+    /// An equal fault. Only a text takes memory.
+    pub fn copy(&self, alloc: Global) -> Result<Fault, OutOfMemory>
+        ensures { IfOk result (λ fault. fault ≡ self.now) }
+    {
+        match self {
+            Fault::Divide => Ok(Fault::Divide),
+            Fault::Domain => Ok(Fault::Domain),
+            Fault::EmptyRange => Ok(Fault::EmptyRange),
+            Fault::Method => Ok(Fault::Method),
+            Fault::Undefined => Ok(Fault::Undefined),
+            Fault::TurnLimit => Ok(Fault::TurnLimit),
+            Fault::StackLimit => Ok(Fault::StackLimit),
+            Fault::ForkTooDeep => Ok(Fault::ForkTooDeep),
+            Fault::ChannelClosed => Ok(Fault::ChannelClosed),
+            Fault::NotLocked => Ok(Fault::NotLocked),
+            Fault::NotOwner => Ok(Fault::NotOwner),
+            Fault::ReleaseFree => Ok(Fault::ReleaseFree),
+            Fault::TaskFailed(path) => Ok(Fault::TaskFailed(path.copy())),
+            Fault::StaticNested => Ok(Fault::StaticNested),
+            Fault::Error(text) => Ok(Fault::Error(text.copy(alloc)?)),
+        }
+    }
 }
 
 /// An operation of a task on its own completion, another task, the printer or an object.
@@ -128,6 +157,54 @@ pub enum Op {
     ACas(Name, i64, i64),
 }
 
+impl Op {
+    /// An equal operation. Only a text takes memory.
+    pub fn copy(&self, alloc: Global) -> Result<Op, OutOfMemory>
+        ensures { IfOk result (λ op. op ≡ self.now) }
+    {
+        match self {
+            Op::Begin => Ok(Op::Begin),
+            Op::End(value) => Ok(Op::End(value.copy())),
+            Op::Fail(fault) => Ok(Op::Fail(fault.copy(alloc)?)),
+            Op::Spawn(path, how) => Ok(Op::Spawn(path.copy(), *how)),
+            Op::Fetch(path) => Ok(Op::Fetch(path.copy())),
+            Op::Wait(path) => Ok(Op::Wait(path.copy())),
+            Op::Yield => Ok(Op::Yield),
+            Op::Print(text) => Ok(Op::Print(text.copy(alloc)?)),
+            Op::NewChannel(name, capacity) => Ok(Op::NewChannel(name.copy(), *capacity)),
+            Op::NewAtomic(name, number) => Ok(Op::NewAtomic(name.copy(), *number)),
+            Op::NewEvent(name, resets) => Ok(Op::NewEvent(name.copy(), *resets)),
+            Op::NewCondition(name) => Ok(Op::NewCondition(name.copy())),
+            Op::NewLock(name) => Ok(Op::NewLock(name.copy())),
+            Op::NewSemaphore(name, count) => Ok(Op::NewSemaphore(name.copy(), *count)),
+            Op::Put(name, item) => Ok(Op::Put(name.copy(), *item)),
+            Op::Offer(name, item) => Ok(Op::Offer(name.copy(), *item)),
+            Op::Landed(name, count) => Ok(Op::Landed(name.copy(), *count)),
+            Op::Take(name) => Ok(Op::Take(name.copy())),
+            Op::Next(name) => Ok(Op::Next(name.copy())),
+            Op::Close(name) => Ok(Op::Close(name.copy())),
+            Op::IsOpen(name) => Ok(Op::IsOpen(name.copy())),
+            Op::IsReady(name) => Ok(Op::IsReady(name.copy())),
+            Op::Notify(name) => Ok(Op::Notify(name.copy())),
+            Op::Reset(name) => Ok(Op::Reset(name.copy())),
+            Op::EWait(name) => Ok(Op::EWait(name.copy())),
+            Op::Lock(name) => Ok(Op::Lock(name.copy())),
+            Op::Unlock(name) => Ok(Op::Unlock(name.copy())),
+            Op::CWait(name) => Ok(Op::CWait(name.copy())),
+            Op::CBack(name) => Ok(Op::CBack(name.copy())),
+            Op::CNotify(name, all) => Ok(Op::CNotify(name.copy(), *all)),
+            Op::Acquire(name) => Ok(Op::Acquire(name.copy())),
+            Op::Release(name) => Ok(Op::Release(name.copy())),
+            Op::AGet(name) => Ok(Op::AGet(name.copy())),
+            Op::ASet(name, number) => Ok(Op::ASet(name.copy(), *number)),
+            Op::AAdd(name, number) => Ok(Op::AAdd(name.copy(), *number)),
+            Op::ASub(name, number) => Ok(Op::ASub(name.copy(), *number)),
+            Op::AXchg(name, number) => Ok(Op::AXchg(name.copy(), *number)),
+            Op::ACas(name, expected, new) => Ok(Op::ACas(name.copy(), *expected, *new)),
+        }
+    }
+}
+
 /// What an operation replies.
 #[derive(PartialEq, Eq, Debug, Drop)]
 pub enum Reply {
@@ -149,4 +226,24 @@ pub enum Reply {
     NotOwner,
     /// The semaphore isn't held.
     NotHeld,
+}
+
+impl Reply {
+    /// An equal reply. It takes no memory.
+    pub fn copy(&self) -> Reply
+        ensures { result ≡ self.now }
+    {
+        match self {
+            Reply::Ok => Reply::Ok,
+            Reply::Int(number) => Reply::Int(*number),
+            Reply::Flag(flag) => Reply::Flag(*flag),
+            Reply::Val(value) => Reply::Val(value.copy()),
+            Reply::Failed => Reply::Failed,
+            Reply::Closed => Reply::Closed,
+            Reply::NoItem => Reply::NoItem,
+            Reply::NotLocked => Reply::NotLocked,
+            Reply::NotOwner => Reply::NotOwner,
+            Reply::NotHeld => Reply::NotHeld,
+        }
+    }
 }

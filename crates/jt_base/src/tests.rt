@@ -232,6 +232,22 @@ fn check_texts(rt: &impl Abort, alloc: Global) -> Result<(), OutOfMemory> {
     Ok(())
 }
 
+fn check_copies(rt: &impl Abort, alloc: Global) -> Result<(), OutOfMemory> {
+    let fault = Fault::Error(Text::from_str(alloc, "halt")?);
+    assert_eq!(rt; fault.copy(alloc)?, fault);
+    let failure = Op::Fail(fault);
+    assert_eq!(rt; failure.copy(alloc)?, failure);
+    let name = Name {
+        path: Path::main(),
+        number: 2,
+    };
+    let exchange = Op::ACas(name, 3, -4);
+    assert_eq!(rt; exchange.copy(alloc)?, exchange);
+    let reply = Reply::Val(Value::Task(Path::main()));
+    assert_eq!(rt; reply.copy(), reply);
+    Ok(())
+}
+
 // The words that follow the state 1234567 end in 317 and 973, by the reference code of SplitMix64.
 fn check_picks(rt: &impl Abort) {
     let mut picks = Picks::new(1_234_567);
@@ -245,6 +261,7 @@ fn names_and_texts(rt: HostRuntime) -> Result<(), Fail> {
     check_paths(&rt)?;
     check_names(&rt)?;
     check_texts(&rt, rt.alloc())?;
+    check_copies(&rt, rt.alloc())?;
     check_picks(&rt);
     OpenGate.before(0, 0);
     OpenGate.begun(63, 18_446_744_073_709_551_615);

@@ -1,3 +1,4 @@
+pub mod BitLemmas
 pub mod DivisionLemmas
 mod Examples
 pub mod PowerLemmas

@@ -8,6 +8,7 @@
 use thiserror::Error;
 
 mod arithmetic;
+mod bits;
 mod division;
 mod powers;
 mod shifts;
@@ -15,6 +16,7 @@ mod shifts;
 mod tests;
 
 pub use arithmetic::{add, mul, sub, wrap_word};
+pub use bits::{and, complement, or, xor};
 pub use division::{div, mod_, rem};
 pub use powers::pow;
 pub use shifts::{shl, shr, ushr};

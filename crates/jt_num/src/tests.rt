@@ -141,6 +141,24 @@ const SHIFTS: &str = "\
 1 9223372036854775807 0 0 0
 ";
 
+// a, b, a & b, a | b, a xor b
+const BITS: &str = "\
+-9223372036854775808 9223372036854775807 0 -1 -1
+-9223372036854775808 -1 -9223372036854775808 -1 9223372036854775807
+-9223372036854775808 -9223372036854775808 -9223372036854775808 -9223372036854775808 0
+9223372036854775807 -1 9223372036854775807 -1 -9223372036854775808
+-1 0 0 -1 -1
+-1 -1 -1 -1 0
+0 0 0 0 0
+12 10 8 14 6
+-12 10 0 -2 -2
+12 -10 4 -2 -6
+-12 -10 -12 -10 2
+6148914691236517205 -6148914691236517206 0 -1 -1
+1 4611686018427387904 0 4611686018427387905 4611686018427387905
+3037000500 -7 3037000496 -3 -3037000499
+";
+
 // a, b, div(a, b), rem(a, b), mod(a, b)
 const DIVISIONS: &str = "\
 -9223372036854775808 -9223372036854775808 1 0 0
@@ -409,6 +427,18 @@ fn sums_and_shifts_wrap(rt: HostRuntime) {
     }
     for (word, number) in WORDS {
         assert_eq!(rt; wrap_word(word), number, "{word}");
+    }
+}
+
+#[test]
+fn bits_are_combined(rt: HostRuntime) {
+    for line in BITS.lines() {
+        let Row([a, b, both, either, one]) = row_of(line);
+        let (a, b) = (a.unwrap_or(0), b.unwrap_or(0));
+        assert_eq!(rt; Some(and(a, b)), both, "{line}");
+        assert_eq!(rt; Some(or(a, b)), either, "{line}");
+        assert_eq!(rt; Some(xor(a, b)), one, "{line}");
+        assert_eq!(rt; complement(a), -1 - a, "{line}");
     }
 }
 
