@@ -1,0 +1,14 @@
+pub mod Lists
+pub mod Orders
+pub mod ObjectLaws
+pub mod Locality
+pub mod Stamped
+pub mod InOrder
+pub mod Legal
+pub mod Placed
+pub mod Keeps
+pub mod Start
+pub mod Turning
+pub mod Resting
+pub mod Sorting
+pub mod MainEnd

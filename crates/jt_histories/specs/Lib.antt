@@ -1,0 +1,5 @@
+pub mod Kept
+pub mod Merges
+pub mod Jobs
+pub mod Rest
+pub mod Turns

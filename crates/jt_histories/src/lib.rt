@@ -1,0 +1,14 @@
+//! Histories: the entries of a run in the order of their stamps, and the laws of this order.
+#![tactic(auto)]
+
+mod cutting;
+mod merging;
+mod order;
+mod world;
+
+pub use cutting::cut_at_main_end;
+pub use merging::merge;
+pub use order::{front_is_legal, legal_by_stamps, locality_law, merge_law};
+pub use world::{
+    entry_keeps, merge_is_legal, moved_keeps, shut_keeps, start_holds, stuck_is_rest, turns_grow,
+};
