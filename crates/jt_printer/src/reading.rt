@@ -32,7 +32,7 @@ pub enum RereadError {
 ///
 /// # Errors
 ///
-/// `TooLong` exactly where the printed text is longer than a text that is read, and want of memory;
+/// `TooLong` only where the printed text is longer than a text that is read, and want of memory;
 /// `NoScript` for scripts made by hand alone.
 pub fn reread(alloc: Global, script: &Script) -> Result<Script, RereadError>
     ensures again { WasRead most_open (script_view script.now) → IsReread (script_view script.now) result }
