@@ -7,18 +7,14 @@ use Rattle.jt_syntax.specs.declared.token.Token.{Token}
 use Rattle.jt_syntax.specs.declared.token.TokenKind.{TokenKind}
 use Rattle.jt_syntax.specs.declared.token.TokenKind.TheVariants as kind
 use Rattle.jt_grammar.specs.Grammar.{token, ScriptSpells}
-use Rattle.jt_grammar.specs.Joined.{is_newline, State, next_state, joined, joined_from, IsScriptOf}
+use Rattle.jt_grammar.specs.Joined.{is_newline, joined, IsScriptOf}
 use Rattle.jt_grammar.specs.Nesting.{TopsWithin}
 use Rattle.jt_grammar.specs.Printed.{script_kinds, bare_script}
+use Rattle.jt_grammar.proofs.Joining.{joined_plain}
 use Rattle.jt_grammar.proofs.Steps.{NoNewline}
 use Rattle.jt_grammar.proofs.Printing.{unplaced, printed_tokens, script_printed, no_newline-script}
 use Rattle.jt_grammar.proofs.Places.{Alike, kinds, alike_one, alike_none, script_moved}
 use Rattle.jt_grammar.proofs.Bare.{same_within, script-bare}
-
--- where no newline is, none is dropped
-joined_from-no_newline : (s : State) (w : List Token) → NoNewline w → joined_from s w ≡ w
-joined_from-no_newline s [] a = refl
-joined_from-no_newline s (t ∷ w) a = rw a.0 (ap (λ z. t ∷ z) (joined_from-no_newline (next_state s t.kind) w a.1))
 
 no_newline-alike : (w v : List Token) → NoNewline w → Alike w v → NoNewline v
 no_newline-alike [] v a h = subst NoNewline (sym (alike_none v h)) tt
@@ -39,5 +35,5 @@ script_again d tops ts again a b e =
     let alike = e ∙ sym (kinds-printed tops) in
     let x = script_moved (bare_script tops) (printed_tokens tops) again (script_printed tops (joined ts) a) alike in
     let same = x.2 ∙ script-bare tops in
-    let plain = joined_from-no_newline ([], false) again (no_newline-alike (printed_tokens tops) again (no_newline-script tops (joined ts) a) alike) in
+    let plain = joined_plain ([], false) again (no_newline-alike (printed_tokens tops) again (no_newline-script tops (joined ts) a) alike) in
     (x.0, subst (ScriptSpells x.0) (sym plain) x.1, same_within tops x.0 d same b, same)

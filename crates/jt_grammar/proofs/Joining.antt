@@ -44,7 +44,7 @@ joined-append s [] v = refl
 joined-append s (t ∷ u) v = append_turn s t u v (drops s t.kind) (joined-append s u v) (joined-append (next_state s t.kind) u v)
 
 -- without newlines nothing is dropped
-joined_plain : (s : State) (v : List Token) → NoNewline v → joined_from s v ≡ v
+pub joined_plain : (s : State) (v : List Token) → NoNewline v → joined_from s v ≡ v
 joined_plain s [] h = refl
 joined_plain s (t ∷ v) h = rw h.0 (ap (λ z. t ∷ z) (joined_plain (next_state s t.kind) v h.1))
 

@@ -32,7 +32,6 @@ pub mod Complete
 pub mod SoundTops
 pub mod Sound
 pub mod Examples
-pub mod Calls
 pub mod Printing
 pub mod Places
 pub mod Bare

@@ -15,5 +15,4 @@ pub mod Classes
 pub mod Lengths
 pub mod SpelledTexts
 pub mod TextTokens
-pub mod Calls
 pub mod Examples

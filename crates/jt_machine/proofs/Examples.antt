@@ -1,26 +1,93 @@
--- The history of the empty script, entry by entry, and one whose stamp doesn't rise.
-use Rattle.std.proofs.Common.{[], ◌∷◌, None, refl, arith, lit≤, lit<}
-use Rattle.jt_base.specs.declared.operation.Op.TheVariants.{Begin, End}
+-- Runs of small programs, entry by entry, and the lines that they print.
+use Rattle.std.proofs.Common.{◌≡◌, ℕ, [], ◌∷◌, None, refl, lit≤, lit<}
+use Rattle.jt_base.specs.declared.operation.Fault.TheVariants.{Method}
+use Rattle.jt_base.specs.declared.operation.Op.TheVariants as op
+use Rattle.jt_base.specs.declared.run.Limits.{Limits}
 use Rattle.jt_base.specs.declared.run.Seeds.{Seeds}
 use Rattle.jt_base.specs.declared.value.Value.TheVariants.{Nothing}
-use Rattle.jt_laws.specs.Histories.{IsLegalHistory, Stamps}
-use Rattle.jt_step.specs.declared.start.Start.{Start}
+use Rattle.jt_laws.specs.Lines.{lines_of}
+use Rattle.jt_program.specs.declared.code.Literal.TheVariants as literal
+use Rattle.jt_program.specs.Plan.{Plan, ProgramPlan}
+use Rattle.jt_program.specs.Plan as plan
+use Rattle.jt_step.specs.Meaning.{meaning, go}
 use Rattle.jt_step.specs.Tasks.{main_start}
-use Rattle.jt_machine.specs.Runs.{plain_world}
-use Rattle.jt_machine.proofs.Made.{entry_of}
+use Rattle.jt_machine.specs.declared.run.End.TheVariants.{Ok, MainFailed, EventLimit}
+use Rattle.jt_machine.specs.Runs.{IsRun}
+use Rattle.jt_machine.proofs.Mains.{entry_of}
+
+abbrev script : Plan → ProgramPlan
+script code = record { constants = 0; functions = []; tasks = record { variables = 0; code = code } ∷ [] }
+
+-- println()
+abbrev one_line : ProgramPlan
+one_line = script (plan.block (plan.plan (plan.print plan.no_pieces) plan.no_plans))
+
+-- if nothing end
+abbrev no_test : ProgramPlan
+no_test = script (plan.block (plan.plan (plan.branch (plan.choice (plan.literal literal.Nothing) (plan.block plan.no_plans) plan.no_choices) (plan.block plan.no_plans)) plan.no_plans))
+
+abbrev within : ℕ → Limits
+within events = record { turns = 100; events = events }
 
 module _ (seeds : Seeds) where
-  -- stamp 1 begin, stamp 2 end
-  empty_script : IsLegalHistory Start (plain_world (record { tops = [] }) seeds) (entry_of 1 Begin ∷ entry_of 2 (End Nothing) ∷ [])
-  empty_script = record {
-    legal = (
-      record { birth = record { start = main_start seeds; maker = None }; born = refl; comes = refl; allowed = refl; works = refl },
-      (record { birth = record { start = main_start seeds; maker = None }; born = refl; comes = refl; allowed = refl; works = refl }, tt),
-    );
-    stamped = (record { stamped = refl; within = lit≤ tt }, (record { stamped = refl; within = lit≤ tt }, tt));
-    ordered = ((lit< tt, tt), (tt, tt));
+  -- main begins, prints and ends, with the stamps 1, 2 and 3
+  line_printed : IsRun one_line seeds (within 3) (entry_of 1 op.Begin ∷ entry_of 2 (op.Print []) ∷ entry_of 3 (op.End Nothing) ∷ []) Ok
+  unfolding go meaning
+  line_printed = record {
+    legal = record {
+      legal = (
+        record { birth = record { start = main_start seeds; maker = None }; born = refl; comes = refl; allowed = refl; works = refl },
+        (
+          record { birth = record { start = main_start seeds; maker = None }; born = refl; comes = refl; allowed = refl; works = refl },
+          (record { birth = record { start = main_start seeds; maker = None }; born = refl; comes = refl; allowed = refl; works = refl }, tt),
+        ),
+      );
+      stamped = (record { stamped = refl; within = lit≤ tt }, (record { stamped = refl; within = lit≤ tt }, (record { stamped = refl; within = lit≤ tt }, tt)));
+      ordered = ((lit< tt, (lit< tt, tt)), ((lit< tt, tt), (tt, tt)));
+    };
+    whole = refl;
+    ended = (Nothing, refl);
   }
 
-  -- a second entry of main with the first stamp has not the stamp that the first entry gives it
-  same_stamp : Stamps Start (plain_world (record { tops = [] }) seeds) (entry_of 1 Begin ∷ []) (entry_of 1 (End Nothing)) → ⊥
-  same_stamp s = let e = s.stamped in omega (arith, e)
+  -- at most two stamps: the end meets the limit
+  line_cut : IsRun one_line seeds (within 2) (entry_of 1 op.Begin ∷ entry_of 2 (op.Print []) ∷ []) EventLimit
+  unfolding go meaning
+  line_cut = record {
+    legal = record {
+      legal = (
+        record { birth = record { start = main_start seeds; maker = None }; born = refl; comes = refl; allowed = refl; works = refl },
+        (record { birth = record { start = main_start seeds; maker = None }; born = refl; comes = refl; allowed = refl; works = refl }, tt),
+      );
+      stamped = (record { stamped = refl; within = lit≤ tt }, (record { stamped = refl; within = lit≤ tt }, tt));
+      ordered = ((lit< tt, tt), (tt, tt));
+    };
+    whole = refl;
+    ended = (
+      refl,
+      (
+        entry_of 3 (op.End Nothing),
+        record { birth = record { start = main_start seeds; maker = None }; born = refl; comes = refl; allowed = refl; works = refl },
+        lit< tt,
+      ),
+    );
+  }
+
+  -- main fails
+  main_failed : IsRun no_test seeds (within 2) (entry_of 1 op.Begin ∷ entry_of 2 (op.Fail Method) ∷ []) (MainFailed Method)
+  unfolding go meaning
+  main_failed = record {
+    legal = record {
+      legal = (
+        record { birth = record { start = main_start seeds; maker = None }; born = refl; comes = refl; allowed = refl; works = refl },
+        (record { birth = record { start = main_start seeds; maker = None }; born = refl; comes = refl; allowed = refl; works = refl }, tt),
+      );
+      stamped = (record { stamped = refl; within = lit≤ tt }, (record { stamped = refl; within = lit≤ tt }, tt));
+      ordered = ((lit< tt, tt), (tt, tt));
+    };
+    whole = refl;
+    ended = refl;
+  }
+
+-- a print's text and a newline
+lines_printed : lines_of (entry_of 1 op.Begin ∷ entry_of 2 (op.Print (65 ∷ [])) ∷ entry_of 3 (op.End Nothing) ∷ []) ≡ 65 ∷ 10 ∷ []
+lines_printed = refl

@@ -1,5 +1,4 @@
-pub mod Legal
-pub mod Made
+pub mod Longer
+pub mod Mains
 pub mod Sofar
-pub mod Replies
 mod Examples

@@ -5,4 +5,4 @@ mod printed;
 mod run;
 
 pub use printed::lines;
-pub use run::run_plain;
+pub use run::{End, Run, run_plain};

@@ -1,35 +1,70 @@
-//! The run of a script by one worker.
+//! The run of a program by one worker.
 
-ghost use Rattle.std.specs.Prelude.{◌≡◌, ◌+◌, ◌≤◌, length, Some, None, IfOk};
-ghost use Rattle.jt_base.specs.declared.operation.Op.TheVariants.{End};
-ghost use Rattle.jt_base.specs.declared.value.Value.TheVariants.{Nothing};
-ghost use Rattle.jt_laws.specs.Histories.{IsLegalHistory};
-ghost use Rattle.jt_laws.specs.Lines.{main_end};
-ghost use Rattle.jt_syntax.specs.Built.{unbuilt};
-ghost use Rattle.jt_syntax.specs.View.{script_view};
-ghost use Rattle.jt_step.specs.declared.start.Start.{Start};
-ghost use Rattle.jt_machine.specs.Runs.{plain_world, default_events};
+ghost use Rattle.std.specs.Prelude.{◌≡◌, ◌<◌, length, IfOk};
+ghost use Rattle.jt_program.specs.View.{program_plan};
+ghost use Rattle.jt_machine.specs.Ends.{ended_by};
+ghost use Rattle.jt_machine.specs.Runs.{IsRun};
 
-use jt_base::{Entry, OutOfMemory, Path, Reply, Seeds};
+use jt_base::{Entry, Fault, Limits, Op, OutOfMemory, Path, Reply, Seeds};
+use jt_program::Program;
 use jt_step::{Advance, Start, TaskRun};
-use jt_syntax::Script;
 use std::alloc::Global;
 
-/// Runs a script all of whose forms run on worker 0 at the default limits until its main task has ended, and gives the
-/// history of the run.
-pub fn run_plain(alloc: Global, script: &Script, seeds: &Seeds) -> Result<Vec<Entry>, OutOfMemory>
-    requires built { unbuilt (script_view script.now) ≡ None }
-    requires short { length script.now.tops + 2 ≤ default_events }
-    ensures legal { IfOk result (λ history. IsLegalHistory Start (plain_world script.now seeds.now) history.items) }
-    ensures ended { IfOk result (λ history. main_end history.items ≡ Some (End Nothing)) }
+/// Why a run ends.
+#[derive(PartialEq, Eq, Debug, Drop)]
+pub enum End {
+    /// The main task has ended.
+    Ok,
+    /// The main task has failed.
+    MainFailed(Fault),
+    /// The main task hasn't ended, and a further entry would have a stamp beyond the limit.
+    EventLimit,
+}
+
+/// A run that has ended.
+#[derive(Drop)]
+pub struct Run {
+    pub history: Vec<Entry>,
+    pub end: End,
+}
+
+/// What a run has come to by an operation of the main task.
+fn ended_by(alloc: Global, op: &Op) -> Result<Option<End>, OutOfMemory>
+    ensures { IfOk result (λ end. end ≡ ended_by op.now) }
 {
-    let mut main = TaskRun::start(alloc, script, Start::main(seeds));
+    match op {
+        Op::End(_) => Ok(Some(End::Ok)),
+        Op::Fail(fault) => {
+            let fault = fault.copy(alloc)?;
+            Ok(Some(End::MainFailed(fault)))
+        }
+        _ => Ok(None),
+    }
+}
+
+/// Runs a program on worker 0 until its main task has ended or failed, or the limit on stamps is met.
+pub fn run_plain(
+    alloc: Global,
+    program: &Program,
+    seeds: &Seeds,
+    limits: &Limits,
+) -> Result<Run, OutOfMemory>
+    requires main { 0 < length program.now.tasks }
+    ensures { IfOk result (λ run. IsRun (program_plan program.now) seeds.now limits.now run.history.items run.end) }
+{
+    let mut main = TaskRun::start(alloc, program, Start::main(seeds), limits)?;
     let mut history = Vec::new(alloc);
     loop {
-        match main.advance()? {
+        match main.advance(u32::MAX)? {
+            Advance::More => {}
             Advance::Needs(op) => {
-                main.reserve_note()?;
+                if history.len() >= limits.events as usize {
+                    let end = End::EventLimit;
+                    return Ok(Run { history, end });
+                }
                 let stamp = history.len() as u32 + 1;
+                let end = ended_by(alloc, &op)?;
+                main.reserve_note()?;
                 history.push(Entry {
                     stamp,
                     worker: 0,
@@ -38,8 +73,11 @@ pub fn run_plain(alloc: Global, script: &Script, seeds: &Seeds) -> Result<Vec<En
                     reply: Reply::Ok,
                 })?;
                 main.note(stamp, Reply::Ok);
+                if let Some(end) = end {
+                    return Ok(Run { history, end });
+                }
             }
-            Advance::Over => return Ok(history),
+            Advance::Over => unreachable!(),
         }
     }
 }

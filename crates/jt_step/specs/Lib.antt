@@ -1,5 +1,9 @@
+pub mod State
+pub mod Values
 pub mod Meaning
 pub mod Next
-pub mod State
 pub mod Tasks
-pub mod Items
+pub mod Stack
+pub mod Moves
+pub mod Task
+pub mod Codes

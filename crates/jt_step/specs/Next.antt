@@ -1,21 +1,36 @@
 -- What comes next for a task after the replies so far.
 use Rattle.std.specs.Prelude.{ℕ, List, [], ◌∷◌, Option, Some, None}
+use Rattle.jt_base.specs.declared.operation.Op.{Op}
+use Rattle.jt_base.specs.declared.operation.Op.TheVariants.{End, Fail, Print}
 use Rattle.jt_base.specs.declared.operation.Reply.{Reply}
 use Rattle.jt_laws.specs.Coming.{Next, Needs, Spawns, Over}
-use Rattle.jt_syntax.specs.Tree.{TopTree}
+use Rattle.jt_program.specs.Plan.{ProgramPlan}
 use Rattle.jt_step.specs.declared.start.Start.{Start}
-use Rattle.jt_step.specs.State.{Out, Gave, Faulted, Asks, Done, Unfit}
-use Rattle.jt_step.specs.Meaning.{main_task}
+use Rattle.jt_step.specs.State.{Out, Gave, Returned, Broke, Continued, Faulted, Asks, Unfit}
+use Rattle.jt_step.specs.Meaning.{task}
+
+abbrev pub over_with : List Reply → Option (Next Start)
+over_with [] = Some Over
+over_with (r ∷ rs) = None
 
 abbrev pub next_of : Out → Option (Next Start)
+next_of (Gave v s) = over_with s.replies
 next_of (Asks op None s) = Some (Needs op)
 next_of (Asks op (Some start) s) = Some (Spawns op start)
-next_of Done = Some Over
-next_of (Gave value s) = None
-next_of (Faulted fault s) = None
+next_of (Returned v s) = None
+next_of (Broke s) = None
+next_of (Continued s) = None
+next_of (Faulted f s) = None
 next_of Unfit = None
 
--- nothing where a reply is none that its operation can have; and there is no task but main
-abbrev pub next_operation : List TopTree → List ℕ → Start → List Reply → Option (Next Start)
-next_operation script [] start replies = next_of (main_task script (record { replies = replies }))
-next_operation script (k ∷ ks) start replies = None
+-- with at most so many turns; nothing where a reply is none that its operation can have, or where
+-- replies are left behind the task's end
+abbrev pub next_operation : ProgramPlan → ℕ → List ℕ → Start → List Reply → Option (Next Start)
+next_operation program turns path start replies = next_of (task program turns start.code replies)
+
+-- an operation that comes once the task has begun
+abbrev pub IsLater : Op → Type 0
+IsLater (Print text) = Unit {0}
+IsLater (End value) = Unit {0}
+IsLater (Fail fault) = Unit {0}
+IsLater op = ⊥

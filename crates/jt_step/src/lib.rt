@@ -1,10 +1,23 @@
-//! The evaluator of one task, which stops at each operation and goes on with its reply.
+//! The evaluator of one task, which stops at each operation and after so many turns, and goes on.
 #![tactic(auto)]
 
-mod expression;
+mod eval;
+mod frame;
+mod give;
 mod line;
+mod machine;
+mod mode;
+mod print;
+mod row;
+mod run;
 mod start;
 mod task;
+#[cfg(test)]
+mod tests;
+mod turn;
+mod unwind;
+mod value;
+mod variables;
 
 pub use start::Start;
 pub use task::{Advance, TaskRun};

@@ -1,71 +1,86 @@
-//! The line that a call of `println` prints.
+//! A line that is being put together.
 
-ghost use Rattle.std.specs.Prelude.{◌≡◌, ◌++◌, [], None, Some, true, IfOk, string_bytes, List, ℕ};
-ghost use Rattle.jt_base.specs.declared.operation.Op.TheVariants.{Print};
-ghost use Rattle.jt_syntax.specs.Built.{is_built, is_item, is_sum, is_utf8, are_items};
-ghost use Rattle.jt_syntax.specs.View.{view, item_view, item_views, top_view, form_view};
-ghost use Rattle.jt_step.specs.State.{State};
-ghost use Rattle.jt_step.specs.Meaning.{ask, run_items, run_top};
-ghost use Rattle.jt_step.specs.Items.{Shows};
+ghost use Rattle.std.specs.Prelude.{◌≡◌, [], Some, OnOk};
+ghost use Rattle.jt_step.specs.Values as spec;
 
-use crate::expression::sum_value;
 use itoa::Buffer;
-use jt_base::{OutOfMemory, Text};
-use jt_syntax::{Expr, Item, Stmt, Top, TopForm};
+use jt_base::{OutOfMemory, Text, Value};
 use std::alloc::Global;
+use std::marker::Model;
 
-/// The text that this statement prints.
-pub(crate) fn line_of(alloc: Global, top: &Top) -> Result<Text, OutOfMemory>
-    requires built { is_built (form_view top.now.form) ≡ true }
-    ensures { IfOk result (λ text. (s : State) → run_top (top_view top.now) s ≡ ask (Print text) None s) }
-{
-    match &top.form {
-        TopForm::Stmt(Stmt::Expression(Expr::Println(items))) => text_of(alloc, items.as_slice()),
-        _ => unreachable!(),
-    }
+/// The text of the items of a `println` so far, if each of them has one.
+#[derive(Drop)]
+pub struct Line {
+    text: String,
+    shows: bool,
 }
 
-/// Appends a string.
-fn push_text(line: &mut String, bytes: &[u8]) -> Result<(), OutOfMemory>
-    requires built { is_utf8 bytes.now ≡ true }
-    ensures { IfOk result (λ _. string_bytes line.new ≡ string_bytes line.old ++ bytes.now) }
-{
-    match str::from_utf8(bytes) {
-        Ok(text) => line.push_str(text)?,
-        Err(_) => unreachable!(),
-    }
-    Ok(())
+impl Model for Line {
+    ghost use Rattle.std.specs.Prelude.{ℕ, List, Option, Some, None, string_bytes, if◌then◌else◌};
+
+    ghost Value = { Option (List ℕ) };
+
+    ghost view = { λ l. if l.shows then Some (string_bytes l.text) else None };
 }
 
-/// Appends the value of a sum.
-fn push_value(line: &mut String, expr: &Expr) -> Result<(), OutOfMemory>
-    requires built { is_sum (view expr.now) ≡ true }
-    ensures { IfOk result (λ _. (text : List ℕ) × (string_bytes line.new ≡ string_bytes line.old ++ text) × Shows (view expr.now) text) }
-{
-    let mut digits = Buffer::new();
-    line.push_str(digits.format(sum_value(expr)))?;
-    Ok(())
-}
-
-/// Appends what an item prints.
-fn push_item(line: &mut String, item: &Item) -> Result<(), OutOfMemory>
-    requires built { is_item (item_view item.now) ≡ true }
-    ensures { IfOk result (λ _. (text : List ℕ) × (string_bytes line.new ≡ string_bytes line.old ++ text) × Shows (item_view item.now) text) }
-{
-    match item {
-        Item::Text(bytes) => push_text(line, bytes.as_slice()),
-        Item::Value(expr) => push_value(line, expr),
+impl Line {
+    /// An empty line.
+    pub(crate) fn new(alloc: Global) -> Line
+        ensures { result ≡ Some [] }
+    {
+        Line {
+            text: String::new(alloc),
+            shows: true,
+        }
     }
-}
 
-/// The text that the print of these items has.
-fn text_of(alloc: Global, items: &[Item]) -> Result<Text, OutOfMemory>
-    requires built { are_items (item_views items.now) ≡ true }
-    ensures { IfOk result (λ text. (s : State) → run_items [] (item_views items.now) s ≡ ask (Print text) None s) }
-{
-    let mut line = String::new(alloc);
-    for item in items {
-        push_item(&mut line, item)?;
+    /// Appends what is printed for a value. The handle of a task or of an object isn't printed: the
+    /// line has no text then.
+    pub(crate) fn push_value(&mut self, value: &Value) -> Result<(), OutOfMemory>
+        ensures { OnOk result (self.new ≡ spec.shown_with self.old (spec.shown value.now)) }
+    {
+        match value {
+            Value::Int(number) => {
+                let mut digits = Buffer::new();
+                self.push_str(digits.format(*number))
+            }
+            Value::Flag(flag) => self.push_str(if *flag { "true" } else { "false" }),
+            Value::Nothing => self.push_str("nothing"),
+            Value::Task(_) | Value::Object(_, _) => {
+                self.shows = false;
+                Ok(())
+            }
+        }
     }
-    Ok(Text::from_string(line))
+
+    /// Appends a string of the script. The line has no text where that is no UTF-8.
+    pub(crate) fn push_text(&mut self, bytes: &[u8]) -> Result<(), OutOfMemory>
+        ensures { OnOk result (self.new ≡ spec.shown_with self.old (spec.text_of bytes.now)) }
+    {
+        match str::from_utf8(bytes) {
+            Ok(text) => self.push_str(text),
+            Err(_) => {
+                self.shows = false;
+                Ok(())
+            }
+        }
+    }
+
+    fn push_str(&mut self, text: &str) -> Result<(), OutOfMemory>
+        ensures { OnOk result (self.new ≡ spec.shown_with self.old (Some text.now)) }
+    {
+        self.text.push_str(text)?;
+        Ok(())
+    }
+
+    /// The whole text, if each item has one.
+    pub(crate) fn finish(self) -> Option<Text>
+        ensures { result ≡ self }
+    {
+        if self.shows {
+            Some(Text::from_string(self.text))
+        } else {
+            None
+        }
+    }
 }

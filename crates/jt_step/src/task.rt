@@ -1,109 +1,131 @@
 //! A task that runs, stopped between its operations.
 
-ghost use Rattle.std.specs.Prelude.{◌≡◌, ◌<◌, ◌++◌, ◌∷◌, [], map, Some, None, IsSome, IfOk, OnErr};
-ghost use Rattle.jt_syntax.specs.Built.{unbuilt};
-ghost use Rattle.jt_syntax.specs.View.{script_view};
-ghost use Rattle.jt_base.specs.declared.entry.Note.{Note};
-ghost use Rattle.jt_step.specs.Tasks.{told, coming, coming_with};
+ghost use Rattle.std.specs.Prelude.{◌≡◌, ◌<◌, ◌++◌, ◌∷◌, [], length, true, false, IfOk, OnErr, IsErr};
+ghost use Rattle.jt_program.specs.View.{program_plan};
+ghost use Rattle.jt_step.specs.Tasks.{Advances, GoesOn};
 
-use crate::line::line_of;
+use crate::machine::Machine;
+use crate::mode::Mode;
 use crate::start::Start;
-use jt_base::{Note, Op, OutOfMemory, Reply, Value};
-use jt_syntax::Script;
+use jt_base::{Limits, Note, Op, OutOfMemory, Reply};
+use jt_program::Program;
 use std::alloc::Global;
 use std::marker::Model;
+use std::mem::replace;
 
-/// What a task does next.
+/// What a task comes to.
 #[derive(PartialEq, Eq, Debug, Drop)]
 pub enum Advance {
+    /// All the turns were taken, and a further one begins before the next operation.
+    More,
     /// It needs this operation, and waits for its reply.
     Needs(Op),
     /// It has ended or failed.
     Over,
 }
 
-/// A task of a script all of whose forms run, with the notes of its operations so far.
+/// A task that runs, with the notes of its operations so far.
 #[derive(Drop)]
 pub struct TaskRun<'p> {
-    script: &'p Script,
+    program: &'p Program,
+    /// The most turns.
+    limit: u64,
     start: Start,
     log: Vec<Note>,
+    /// How many notes the machine has had.
+    used: usize,
+    machine: Machine<'p>,
+    mode: Mode<'p>,
+    /// Whether memory was refused in an advance.
+    failed: bool,
     alloc: Global,
 }
 
 impl<'p> Model for TaskRun<'p> {
-    ghost use Rattle.std.specs.Prelude.{◌≡◌, ◌-◌, vec_capacity, length, None, IsSome};
-    ghost use Rattle.jt_syntax.specs.Built.{unbuilt};
-    ghost use Rattle.jt_syntax.specs.View.{script_view};
-    ghost use Rattle.jt_step.specs.Tasks.{Task, coming_of};
-    ghost use Rattle.jt_syntax.specs.contracts.script.Expr as expressions;
-    ghost use Rattle.jt_syntax.specs.contracts.script.Stmt as statements;
-    ghost use Rattle.std.specs.Coded.{codes};
+    ghost use Rattle.jt_step.specs.Codes.{Label, coded_program};
+    ghost use Rattle.jt_step.specs.Task.{Holds, seen};
+    ghost use Rattle.jt_step.specs.Tasks.{Task};
+    ghost use Rattle.std.specs.Coded.{Coded, codes};
 
     ghost Value = { Task };
 
-    ghost coded = { Prim.hlevel (codes, expressions.the_row.coded, statements.the_row.coded) };
+    ghost coded = { let c : Coded Label = Prim.hlevel codes in Prim.hlevel (codes, coded_program c) };
 
-    ghost view = { λ t. record { script = t.script.now; start = t.start; log = t.log.items; room = vec_capacity t.log - length t.log.items } };
+    ghost view = { seen };
 
-    ghost invariant = { λ t. (unbuilt (script_view t.script.now) ≡ None) × IsSome (coming_of t.script.now t.start t.log.items) };
+    ghost invariant = { Holds };
 }
 
 impl<'p> TaskRun<'p> {
-    /// The main task at its beginning, with an empty log.
-    pub fn start(alloc: Global, script: &'p Script, start: Start) -> TaskRun<'p>
-        requires built { unbuilt (script_view script.now) ≡ None }
-        ensures script { result.script ≡ script.now }
-        ensures start { result.start ≡ start }
-        ensures log { result.log ≡ [] }
+    /// A task at its beginning, with no notes.
+    pub fn start(
+        alloc: Global,
+        program: &'p Program,
+        start: Start,
+        limits: &Limits,
+    ) -> Result<TaskRun<'p>, OutOfMemory>
+        requires body { start.code < length program.now.tasks }
+        ensures { IfOk result (λ t. t ≡ record { program = program_plan program.now; limit = limits.now.turns; start = start; log = []; room = 0; taken = 0; failed = false }) }
     {
-        TaskRun {
-            script,
+        let body = &program.tasks.as_slice()[start.code as usize];
+        let machine = Machine::new(alloc, body.variables, program.constants, limits.turns)?;
+        Ok(TaskRun {
+            program,
+            limit: limits.turns,
             start,
             log: Vec::new(alloc),
+            used: 0,
+            machine,
+            mode: Mode::Begins(&body.code),
+            failed: false,
             alloc,
-        }
+        })
     }
 
-    /// The operation that the task needs after the replies so far: the same again while it has no
-    /// reply.
-    pub fn advance(&self) -> Result<Advance, OutOfMemory>
-        ensures { IfOk result (λ a. coming self.now ≡ Some (told a)) }
+    /// Goes on by at most so many turns, up to the operation that the task needs after its notes: the
+    /// same again while it has no reply. `OutOfMemory` where memory is refused: the task is given up, and
+    /// each later call answers the same.
+    pub fn advance(&mut self, turns: u32) -> Result<Advance, OutOfMemory>
+        ensures ok { IfOk result (λ a. Advances self.old turns a self.new) }
+        ensures goes_on { IfOk result (λ a. GoesOn self.new a) }
+        ensures err { OnErr result (self.new.failed ≡ true) }
+        ensures kept { OnErr result (self.new ≡ record self.old { taken = self.new.taken; failed = true }) }
+        ensures stuck { self.old.failed ≡ true → IsErr result }
     {
-        let done = self.log.len();
-        if done == 0 {
-            return Ok(Advance::Needs(Op::Begin));
+        if self.failed {
+            return Err(OutOfMemory);
         }
-        match self.script.tops.get(done - 1) {
-            Some(top) => {
-                let text = line_of(self.alloc, top)?;
-                Ok(Advance::Needs(Op::Print(text)))
-            }
-            None if done - 1 == self.script.tops.len() => Ok(Advance::Needs(Op::End(
-                Value::Nothing,
-            ))),
-            None => Ok(Advance::Over),
-        }
+        self.failed = true;
+        let mode = replace(&mut self.mode, Mode::Over);
+        let (mode, used) = self.machine.run_on(
+            self.alloc,
+            self.program.functions.as_slice(),
+            self.log.as_slice(),
+            self.used,
+            mode,
+            turns,
+        )?;
+        let told = mode.told(self.alloc)?;
+        self.used = used;
+        self.mode = mode;
+        self.failed = false;
+        Ok(told)
     }
 
     /// Makes room for one note.
     pub fn reserve_note(&mut self) -> Result<(), OutOfMemory>
         ensures room { IfOk result (λ _. 0 < self.new.room) }
-        ensures script { self.new.script ≡ self.old.script }
-        ensures start { self.new.start ≡ self.old.start }
-        ensures log { self.new.log ≡ self.old.log }
+        ensures kept { self.new ≡ record self.old { room = self.new.room } }
     {
         self.log.try_reserve(1)?;
         Ok(())
     }
 
-    /// Notes the reply of the waiting operation, with the stamp of its entry. It takes no memory.
+    /// Notes the reply of the operation that the task waits for, with the stamp of its entry. It takes
+    /// no memory.
     pub fn note(&mut self, stamp: u32, reply: Reply)
         requires room { 0 < self.old.room }
-        requires fits { IsSome (coming_with self.old reply) }
-        ensures log { self.new.log ≡ self.old.log ++ record { stamp = stamp; reply = reply } ∷ [] }
-        ensures script { self.new.script ≡ self.old.script }
-        ensures start { self.new.start ≡ self.old.start }
+        ensures { self.new ≡ record self.old { log = self.old.log ++ record { stamp = stamp; reply = reply } ∷ []; room = self.new.room } }
     {
         match self.log.push(Note { stamp, reply }) {
             Ok(()) => {}

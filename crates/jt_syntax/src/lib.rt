@@ -2,12 +2,10 @@
 //! them walks them.
 #![tactic(auto)]
 
-mod built;
 mod operator;
 mod script;
 mod token;
 
-pub use built::unbuilt;
 pub use operator::{
     AssignmentOperator, ComparisonOperator, Connective, ProductOperator, ShiftOperator,
     SumOperator, UnaryOperator,

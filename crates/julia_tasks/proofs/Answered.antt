@@ -1,47 +1,13 @@
--- Why there is no run of the bytes, and what is answered then.
-use Rattle.std.proofs.Common.{◌≡◌, ℕ, ◌*◌, ◌≤◌, List, Option, None, length, IsUtf8, arith}
-use Rattle.jt_base.specs.declared.entry.Entry.{Entry}
-use Rattle.jt_grammar.proofs.Calls.{script_weighs}
-use Rattle.jt_grammar.specs.Joined.{IsScriptOf}
-use Rattle.jt_lexer.proofs.Calls.{tokens_weigh}
+-- What stops the tokens or the script of a text stops the text.
+use Rattle.std.proofs.Common.{◌≡◌, ℕ, List, None, IsUtf8}
+use Rattle.jt_forms.specs.Built.{unbuilt}
 use Rattle.jt_lexer.specs.Tokens.{IsTokensOf}
-use Rattle.jt_syntax.specs.Built.{unbuilt}
 use Rattle.jt_syntax.specs.Tree.{TopTree}
 use Rattle.jt_syntax.specs.declared.token.Token.{Token}
-use Rattle.julia_tasks.specs.declared.report.Refusal.TheVariants.{BadCharacter, OpenString, NumberTooLarge, Unexpected, TooDeep, NotBuilt}
+use Rattle.julia_tasks.specs.declared.report.Refusal.TheVariants.{BadCharacter, OpenString, NumberTooLarge, Unexpected, TooDeep, NotBuilt, UnknownName, AmbiguousGlobal, TwiceDefined, WrongCount, NoConstant, BadJump}
 use Rattle.julia_tasks.specs.declared.report.Status.{Status}
-use Rattle.julia_tasks.specs.declared.report.Status.TheVariants.{Ok, Usage, Refused, ReadFault, WriteFault, OutOfMemory, TooLarge, NotText}
-use Rattle.julia_tasks.specs.Tool.{Answers, ComesAfterReading, Stops, StopsTokens, WroteNothing, most_script}
-
-pub stop_answers : (bytes : List ℕ) (status : Status) (history : List Entry) (before after : Option (List ℕ)) → Stops bytes status → Answers bytes status history before after
-stop_answers bytes (Refused kind at) history before after s = s
-stop_answers bytes NotText history before after s = s
-stop_answers bytes OutOfMemory history before after s = tt
-stop_answers bytes Ok history before after s = absurd s
-stop_answers bytes WriteFault history before after s = absurd s
-stop_answers bytes Usage history before after s = tt
-stop_answers bytes ReadFault history before after s = tt
-stop_answers bytes TooLarge history before after s = tt
-
-pub stop_writes_nothing : (bytes : List ℕ) (status : Status) → Stops bytes status → WroteNothing status
-stop_writes_nothing bytes (Refused kind at) s = tt
-stop_writes_nothing bytes NotText s = tt
-stop_writes_nothing bytes OutOfMemory s = tt
-stop_writes_nothing bytes Ok s = s
-stop_writes_nothing bytes WriteFault s = s
-stop_writes_nothing bytes Usage s = tt
-stop_writes_nothing bytes ReadFault s = tt
-stop_writes_nothing bytes TooLarge s = tt
-
-pub stop_comes_later : (bytes : List ℕ) (status : Status) → Stops bytes status → ComesAfterReading status
-stop_comes_later bytes (Refused kind at) s = tt
-stop_comes_later bytes NotText s = tt
-stop_comes_later bytes OutOfMemory s = tt
-stop_comes_later bytes Ok s = tt
-stop_comes_later bytes WriteFault s = tt
-stop_comes_later bytes Usage s = s
-stop_comes_later bytes ReadFault s = s
-stop_comes_later bytes TooLarge s = s
+use Rattle.julia_tasks.specs.declared.report.Status.TheVariants.{Ok, MainFailed, Usage, Refused, ReadFault, WriteFault, EventLimit, OutOfMemory, TooLarge, NotText}
+use Rattle.julia_tasks.specs.Tool.{IsScriptText, Stops, StopsTokens, StopsScript}
 
 -- a refusal of the tokens of a text is one of the text
 pub stop_of_text : (bytes : List ℕ) (tokens : List Token) (status : Status) → IsUtf8 bytes → IsTokensOf bytes tokens → StopsTokens tokens status → Stops bytes status
@@ -51,17 +17,42 @@ stop_of_text bytes tokens (Refused NotBuilt at) text lexed s = (text, (tokens, s
 stop_of_text bytes tokens (Refused BadCharacter at) text lexed s = absurd s
 stop_of_text bytes tokens (Refused OpenString at) text lexed s = absurd s
 stop_of_text bytes tokens (Refused NumberTooLarge at) text lexed s = absurd s
+stop_of_text bytes tokens (Refused UnknownName at) text lexed s = absurd s
+stop_of_text bytes tokens (Refused AmbiguousGlobal at) text lexed s = absurd s
+stop_of_text bytes tokens (Refused TwiceDefined at) text lexed s = absurd s
+stop_of_text bytes tokens (Refused WrongCount at) text lexed s = absurd s
+stop_of_text bytes tokens (Refused NoConstant at) text lexed s = absurd s
+stop_of_text bytes tokens (Refused BadJump at) text lexed s = absurd s
 stop_of_text bytes tokens NotText text lexed s = absurd s
 stop_of_text bytes tokens OutOfMemory text lexed s = tt
 stop_of_text bytes tokens Ok text lexed s = absurd s
+stop_of_text bytes tokens (MainFailed fault) text lexed s = absurd s
+stop_of_text bytes tokens EventLimit text lexed s = absurd s
 stop_of_text bytes tokens WriteFault text lexed s = absurd s
 stop_of_text bytes tokens Usage text lexed s = absurd s
 stop_of_text bytes tokens ReadFault text lexed s = absurd s
 stop_of_text bytes tokens TooLarge text lexed s = absurd s
 
--- a script that runs has few forms
-pub few_tops : (bytes : List ℕ) (tokens : List Token) (tops : List TopTree) → length bytes ≤ most_script → IsTokensOf bytes tokens → IsScriptOf tokens tops → unbuilt tops ≡ None → 7 * length tops ≤ most_script
-few_tops bytes tokens tops few lexed parsed built =
-    let a = script_weighs tokens tops built parsed in
-    let b = tokens_weigh bytes tokens lexed in
-    omega (arith, a, b, few)
+-- and so is one of the script
+pub stop_of_script : (bytes : List ℕ) (tokens : List Token) (tops : List TopTree) (status : Status) → IsScriptText bytes tokens tops → unbuilt tops ≡ None → StopsScript tops status → Stops bytes status
+stop_of_script bytes tokens tops (Refused UnknownName at) is built s = (is.text, (tokens, tops, is, built, s))
+stop_of_script bytes tokens tops (Refused AmbiguousGlobal at) is built s = (is.text, (tokens, tops, is, built, s))
+stop_of_script bytes tokens tops (Refused TwiceDefined at) is built s = (is.text, (tokens, tops, is, built, s))
+stop_of_script bytes tokens tops (Refused WrongCount at) is built s = (is.text, (tokens, tops, is, built, s))
+stop_of_script bytes tokens tops (Refused NoConstant at) is built s = (is.text, (tokens, tops, is, built, s))
+stop_of_script bytes tokens tops (Refused BadJump at) is built s = (is.text, (tokens, tops, is, built, s))
+stop_of_script bytes tokens tops (Refused Unexpected at) is built s = absurd s
+stop_of_script bytes tokens tops (Refused TooDeep at) is built s = absurd s
+stop_of_script bytes tokens tops (Refused NotBuilt at) is built s = absurd s
+stop_of_script bytes tokens tops (Refused BadCharacter at) is built s = absurd s
+stop_of_script bytes tokens tops (Refused OpenString at) is built s = absurd s
+stop_of_script bytes tokens tops (Refused NumberTooLarge at) is built s = absurd s
+stop_of_script bytes tokens tops NotText is built s = absurd s
+stop_of_script bytes tokens tops OutOfMemory is built s = tt
+stop_of_script bytes tokens tops Ok is built s = absurd s
+stop_of_script bytes tokens tops (MainFailed fault) is built s = absurd s
+stop_of_script bytes tokens tops EventLimit is built s = absurd s
+stop_of_script bytes tokens tops WriteFault is built s = absurd s
+stop_of_script bytes tokens tops Usage is built s = absurd s
+stop_of_script bytes tokens tops ReadFault is built s = absurd s
+stop_of_script bytes tokens tops TooLarge is built s = absurd s

@@ -1,5 +1,5 @@
--- An accepted script, and no fault that was counted, leave two answers.
-use Rattle.std.proofs.Common.{◌≡◌, ℕ, ◌+◌, ◌≤◌, ◌↔◌, ◌⊎◌, inl, inr, List, ◌++◌, length, Option, Some, None, Result, Ok, Err, IsUtf8, refl, sym, ap, ◌∙◌, subst, arith}
+-- An accepted script, and no fault that was counted, leave the answers of a run and want of memory.
+use Rattle.std.proofs.Common.{◌≡◌, ℕ, ◌+◌, ◌≤◌, ◌↔◌, List, [], ◌++◌, length, Option, Some, None, Result, Ok, Err, IsUtf8, refl, sym, ap, ◌∙◌, subst, arith}
 use Rattle.std.proofs.lemmas.List.{append-nil, length-append}
 use Rattle.jt_base.specs.declared.entry.Entry.{Entry}
 use Rattle.jt_base.specs.Outside.{ReadsToEnd, Gives}
@@ -10,14 +10,18 @@ use Rattle.jt_printer.proofs.Whole.{not_both}
 use Rattle.jt_lexer.proofs.TokenLaws.{tokens_read}
 use Rattle.jt_lexer.specs.Tokens.{IsTokensOf}
 use Rattle.jt_lexer.specs.declared.error.LexError.TheVariants as lexical
-use Rattle.jt_syntax.specs.Built.{unbuilt}
+use Rattle.jt_forms.specs.Built.{unbuilt}
+use Rattle.jt_scopes.specs.declared.rules.Broken.{Broken}
+use Rattle.jt_scopes.specs.declared.rules.Rule.{Rule}
+use Rattle.jt_scopes.specs.declared.rules.Rule.TheVariants as rule
+use Rattle.jt_scopes.specs.Scripts.{Among, Breaks, BreaksNone, broken_rules}
 use Rattle.jt_syntax.specs.Tree.{TopTree}
 use Rattle.jt_syntax.specs.declared.token.Token.{Token}
 use Rattle.julia_tasks.specs.declared.report.Refusal.{Refusal}
-use Rattle.julia_tasks.specs.declared.report.Refusal.TheVariants.{BadCharacter, OpenString, NumberTooLarge, Unexpected, TooDeep, NotBuilt}
+use Rattle.julia_tasks.specs.declared.report.Refusal.TheVariants.{BadCharacter, OpenString, NumberTooLarge, Unexpected, TooDeep, NotBuilt, UnknownName, AmbiguousGlobal, TwiceDefined, WrongCount, NoConstant, BadJump}
 use Rattle.julia_tasks.specs.declared.report.Status.{Status}
-use Rattle.julia_tasks.specs.declared.report.Status.TheVariants.{Ok as Fine, Usage, Refused, ReadFault, WriteFault, OutOfMemory, TooLarge, NotText}
-use Rattle.julia_tasks.specs.Tool.{Answers, WasRead, IsAccepted, IsScriptText, IsRefused, most_script, most_open}
+use Rattle.julia_tasks.specs.declared.report.Status.TheVariants.{Ok as Fine, MainFailed, Usage, Refused, ReadFault, WriteFault, EventLimit, OutOfMemory, TooLarge, NotText}
+use Rattle.julia_tasks.specs.Tool.{Answers, WasRead, IsAccepted, IsOfRun, IsScriptText, IsRefused, IsMisnamedAt, most_script, most_open}
 
 -- what a source gave is no more than what was left
 not_too_many : (before after : Option (List ℕ)) → IsAccepted before → Gives before after (most_script + 1) → ⊥
@@ -44,33 +48,53 @@ one_list : (text : List ℕ) (ts us : List Token) → IsTokensOf text ts → IsT
 unfolding ok_is
 one_list text ts us t u = ap (ok_is ts) (sym (tokens_read text ts t) ∙ tokens_read text us u)
 
--- a script all of whose forms run is not refused
-not_refused : (bytes : List ℕ) (ts : List Token) (tops : List TopTree) (kind : Refusal) (at : ℕ) → IsScriptText bytes ts tops → unbuilt tops ≡ None → IsRefused bytes kind at → ⊥
-not_refused bytes ts tops BadCharacter at is built r = not_both bytes ts (lexical.BadCharacter at) is.lexed r
-not_refused bytes ts tops OpenString at is built r = not_both bytes ts (lexical.OpenString at) is.lexed r
-not_refused bytes ts tops NumberTooLarge at is built r = not_both bytes ts (lexical.NumberTooLarge at) is.lexed r
-not_refused bytes ts tops Unexpected at is built r =
+-- one text has one script
+one_script : (bytes : List ℕ) (ts us : List Token) (tops others : List TopTree) → IsScriptText bytes ts tops → IsScriptText bytes us others → tops ≡ others
+one_script bytes ts us tops others is other =
+    let same = one_list bytes ts us is.lexed other.lexed in
+    let P : List Token → Type 0 = λ xs. IsScriptOf xs others in
+    lines_only ts tops others is.parsed (subst P (sym same) other.parsed)
+
+-- a script that breaks no rule of names breaks none that counts
+none_among : (b : Broken) (bs : List Broken) → bs ≡ [] → Among b bs → ⊥
+none_among b bs none among = subst (Among b) none among
+
+none_broken : (tops : List TopTree) (b : Broken) → BreaksNone tops → Breaks tops b → ⊥
+none_broken tops b none breaks = none_among b (broken_rules tops) none breaks.among
+
+not_misnamed : (bytes : List ℕ) (ts : List Token) (tops : List TopTree) (r : Rule) (at : ℕ) → IsScriptText bytes ts tops → BreaksNone tops → IsMisnamedAt bytes r at → ⊥
+not_misnamed bytes ts tops r at is none m = none_broken m.1 _ (subst BreaksNone (one_script bytes ts m.0 tops m.1 is m.2) none) m.4
+
+-- a script all of whose forms run, and that breaks no rule of names, is not refused
+not_refused : (bytes : List ℕ) (ts : List Token) (tops : List TopTree) (kind : Refusal) (at : ℕ) → IsScriptText bytes ts tops → unbuilt tops ≡ None → BreaksNone tops → IsRefused bytes kind at → ⊥
+not_refused bytes ts tops BadCharacter at is built named r = not_both bytes ts (lexical.BadCharacter at) is.lexed r
+not_refused bytes ts tops OpenString at is built named r = not_both bytes ts (lexical.OpenString at) is.lexed r
+not_refused bytes ts tops NumberTooLarge at is built named r = not_both bytes ts (lexical.NumberTooLarge at) is.lexed r
+not_refused bytes ts tops Unexpected at is built named r =
     let same = one_list bytes ts r.0 is.lexed r.2 in
     let P : List Token → Type 0 = λ us. IsUnexpected most_open us r.1 in
     not_unexpected most_open ts r.1 tops is.parsed is.nested (subst P (sym same) r.3)
-not_refused bytes ts tops TooDeep at is built r =
+not_refused bytes ts tops TooDeep at is built named r =
     let same = one_list bytes ts r.0 is.lexed r.2 in
     let P : List Token → Type 0 = λ us. IsTooDeep most_open us r.1 in
     not_too_deep most_open ts r.1 tops is.parsed is.nested (subst P (sym same) r.3)
-not_refused bytes ts tops NotBuilt at is built r =
-    let same = one_list bytes ts r.0 is.lexed r.2.lexed in
-    let P : List Token → Type 0 = λ us. IsScriptOf us r.1 in
-    let tree : tops ≡ r.1 = lines_only ts tops r.1 is.parsed (subst P (sym same) r.2.parsed) in
-    absurd (none_some (sym built ∙ ap unbuilt tree ∙ r.3))
+not_refused bytes ts tops NotBuilt at is built named r =
+    absurd (none_some (sym built ∙ ap unbuilt (one_script bytes ts r.0 tops r.1 is r.2) ∙ r.3))
   where
     none_some : {n : ℕ} → None ≡ Some n → ⊥
     none_some q = cc
+not_refused bytes ts tops UnknownName at is built named r = not_misnamed bytes ts tops rule.UnknownName at is named r
+not_refused bytes ts tops AmbiguousGlobal at is built named r = not_misnamed bytes ts tops rule.AmbiguousGlobal at is named r
+not_refused bytes ts tops TwiceDefined at is built named r = not_misnamed bytes ts tops rule.TwiceDefined at is named r
+not_refused bytes ts tops WrongCount at is built named r = not_misnamed bytes ts tops rule.WrongCount at is named r
+not_refused bytes ts tops NoConstant at is built named r = not_misnamed bytes ts tops rule.NoConstant at is named r
+not_refused bytes ts tops BadJump at is built named r = not_misnamed bytes ts tops rule.BadJump at is named r
 
 not_refused_source : (before after : Option (List ℕ)) (read : List ℕ) (kind : Refusal) (at : ℕ) → IsAccepted before → ReadsToEnd before after read → IsRefused read kind at → ⊥
 not_refused_source None after read kind at accepted h r = accepted
 not_refused_source (Some bytes) after read kind at accepted h r =
     let P : List ℕ → Type 0 = λ b. IsRefused b kind at in
-    not_refused bytes accepted.1 accepted.2 kind at accepted.3 accepted.4 (subst P (sym (all_read bytes read after h)) r)
+    not_refused bytes accepted.1 accepted.2 kind at accepted.3 accepted.4 accepted.5 (subst P (sym (all_read bytes read after h)) r)
 
 text_source : (before after : Option (List ℕ)) (read : List ℕ) → IsAccepted before → ReadsToEnd before after read → (IsUtf8 read → ⊥) → ⊥
 text_source None after read accepted h no_text = accepted
@@ -80,9 +104,11 @@ pub completes : (run read_rose wrote_rose : Type 0) (status : Status) (history :
     → (status ≡ Usage ↔ (run → ⊥)) → (status ≡ ReadFault → read_rose) → (status ≡ TooLarge → Gives before after (most_script + 1))
     → (WasRead status → (bytes : List ℕ) × ReadsToEnd before after bytes × (length bytes ≤ most_script) × Answers bytes status history out_before out_after)
     → (status ≡ WriteFault → wrote_rose)
-    → run → (read_rose → ⊥) → (wrote_rose → ⊥) → IsAccepted before → (status ≡ Fine) ⊎ (status ≡ OutOfMemory)
-completes run rr wr Fine history b a ob oa usage read large whole write is_run no_read no_write accepted = inl refl
-completes run rr wr OutOfMemory history b a ob oa usage read large whole write is_run no_read no_write accepted = inr refl
+    → run → (read_rose → ⊥) → (wrote_rose → ⊥) → IsAccepted before → IsOfRun status
+completes run rr wr Fine history b a ob oa usage read large whole write is_run no_read no_write accepted = tt
+completes run rr wr (MainFailed fault) history b a ob oa usage read large whole write is_run no_read no_write accepted = tt
+completes run rr wr EventLimit history b a ob oa usage read large whole write is_run no_read no_write accepted = tt
+completes run rr wr OutOfMemory history b a ob oa usage read large whole write is_run no_read no_write accepted = tt
 completes run rr wr Usage history b a ob oa usage read large whole write is_run no_read no_write accepted = absurd (usage.0 refl is_run)
 completes run rr wr ReadFault history b a ob oa usage read large whole write is_run no_read no_write accepted = absurd (no_read (read refl))
 completes run rr wr WriteFault history b a ob oa usage read large whole write is_run no_read no_write accepted = absurd (no_write (write refl))

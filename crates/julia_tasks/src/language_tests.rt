@@ -2,7 +2,8 @@
 //! and of the grammar; and texts that are read, with the printed form of their trees. In the tables
 //! `¶` stands for a newline, and `§` for a carriage return.
 
-use crate::tool::{plain_tool, tokens_of};
+use crate::run::tokens_of;
+use crate::tool::plain_tool;
 use jt_base::{MemorySink, MemorySource};
 use jt_parser::parse;
 use jt_printer::{print_script, reread};

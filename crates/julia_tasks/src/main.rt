@@ -1,11 +1,16 @@
 //! The program `julia-tasks`: runs a script and writes its lines.
 #![tactic(auto)]
 
+mod causes;
+mod fault;
 #[cfg(test)]
 mod language_tests;
 mod note;
 mod reading;
 mod report;
+mod run;
+#[cfg(test)]
+mod running_tests;
 #[cfg(test)]
 mod tests;
 mod tool;

@@ -3,7 +3,7 @@
 ghost use Rattle.std.specs.Prelude.{◌≡◌, ◌≤◌, length};
 ghost use Rattle.julia_tasks.specs.Status.{number_of, kind_of};
 
-use jt_base::Entry;
+use jt_base::{Entry, Fault};
 
 /// Why a script is refused. A place is that of the byte at which a token begins, but where another
 /// byte is named.
@@ -21,6 +21,19 @@ pub enum Refusal {
     TooDeep,
     /// The form of the script that begins here isn't built yet.
     NotBuilt,
+    /// The name here means nothing.
+    UnknownName,
+    /// A loop of the script assigns here to a variable of the script.
+    AmbiguousGlobal,
+    /// The function, constant or parameter here was made before.
+    TwiceDefined,
+    /// The call here has another number of arguments than its function takes.
+    WrongCount,
+    /// A function uses a variable of the script here, or a constant stands here that doesn't come
+    /// first, or that calls a function of the script or prints.
+    NoConstant,
+    /// The jump here leaves its function, its loop or the script.
+    BadJump,
 }
 
 impl Refusal {
@@ -36,15 +49,23 @@ impl Refusal {
             Refusal::Unexpected => "unexpected",
             Refusal::TooDeep => "too-deep",
             Refusal::NotBuilt => "not-built",
+            Refusal::UnknownName => "unknown-name",
+            Refusal::AmbiguousGlobal => "ambiguous-global",
+            Refusal::TwiceDefined => "twice-defined",
+            Refusal::WrongCount => "wrong-count",
+            Refusal::NoConstant => "no-constant",
+            Refusal::BadJump => "bad-jump",
         }
     }
 }
 
 /// How a command ended.
-#[derive(Clone, Copy, PartialEq, Eq, Debug, Drop)]
+#[derive(PartialEq, Eq, Debug, Drop)]
 pub enum Status {
     /// The script's main task ended, and all lines were written.
     Ok,
+    /// The script's main task failed with this fault, and all lines were written.
+    MainFailed(Fault),
     /// The words are no command.
     Usage,
     /// The script is refused, at this byte of it, counted from 0.
@@ -53,6 +74,8 @@ pub enum Status {
     ReadFault,
     /// A write of the output failed.
     WriteFault,
+    /// The script's main task hasn't ended at the limit on entries, and all lines were written.
+    EventLimit,
     /// No memory was to be had. Nothing was written.
     OutOfMemory,
     /// The source gave more bytes than a script may have.
@@ -68,10 +91,12 @@ impl Status {
     {
         match self {
             Status::Ok => 0,
+            Status::MainFailed(_) => 1,
             Status::Usage => 2,
             Status::Refused(_, _) => 3,
             Status::ReadFault => 4,
             Status::WriteFault => 5,
+            Status::EventLimit => 7,
             Status::OutOfMemory => 8,
             Status::TooLarge => 9,
             Status::NotText => 10,

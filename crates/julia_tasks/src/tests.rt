@@ -1,6 +1,6 @@
-use crate::report::{Refusal, Status};
+use crate::report::Status;
 use crate::tool::{plain_tool, run_tool};
-use jt_base::{Entry, MemorySink, MemorySource, Op, OpenGate, Path, Reply, Text, Value};
+use jt_base::{Entry, Fault, MemorySink, MemorySource, Op, OpenGate, Path, Reply, Text, Value};
 use std::alloc::Global;
 use std::process::Abort;
 use std::test::Fail;
@@ -16,13 +16,14 @@ struct Case<'a> {
     // the most bytes of a write, and the writes that fail
     most_written: usize,
     failing_writes: &'a [u64],
-    status: Status,
+    // the exit status
+    status: u8,
     lines: &'a [u8],
     note: &'a [u8],
 }
 
 // `run` with a source and a sink that don't fail.
-fn given<'a>(script: &'a [u8], status: Status, lines: &'a [u8], note: &'a [u8]) -> Case<'a> {
+fn given<'a>(script: &'a [u8], status: u8, lines: &'a [u8], note: &'a [u8]) -> Case<'a> {
     Case {
         words: &["run"],
         script,
@@ -61,7 +62,7 @@ fn check_with(
     let mut out = MemorySink::new(alloc, case.most_written.max(1), 4096, case.failing_writes)?;
     let mut notes = MemorySink::new(alloc, 4096, 4096, failing_notes)?;
     let report = plain_tool(alloc, words.as_slice(), &mut source, &mut out, &mut notes);
-    assert_eq!(rt; report.status, case.status);
+    assert_eq!(rt; report.status.number(), case.status);
     assert_eq!(rt; out.written(), case.lines);
     if failing_notes.is_empty() {
         assert_eq!(rt; notes.written(), case.note);
@@ -94,35 +95,6 @@ println(1,#= , 2 =# 3) => 13/
 println(0 - 9223372036854775807 - 2) => 9223372036854775807/
 ";
 
-// Scripts that are read and don't run yet, and the place of their first such form.
-const UNBUILT: &str = "\
-x = 1 => 0
-println(+1) => 0
-println(-1) => 0
-println((1)) => 0
-println(1); println(x) => 12
-println(1);; y => 13
-println(2 ÷ 1) => 0
-println(1 << 2) => 0
-println(2 ^ 3) => 0
-println(true) => 0
-print(1) => 0
-const a = 1 => 0
-using Base.Threads; println(1) => 0
-";
-
-// A script with a form that doesn't run yet.
-fn check_unbuilt(rt: &impl Abort, alloc: Global, script: &str, place: u32) -> Result<(), Fail> {
-    let mut note = String::from_str(alloc, "julia-tasks: refused: not-built at ")?;
-    write!(note, "{place}\n")?;
-    let status = Status::Refused(Refusal::NotBuilt, place);
-    check(
-        rt,
-        alloc,
-        &given(script.as_bytes(), status, b"", note.as_str().as_bytes()),
-    )
-}
-
 #[test]
 fn scripts_print_their_sums(rt: HostRuntime) -> Result<(), Fail> {
     for row in PRINTED.split('\n') {
@@ -131,26 +103,16 @@ fn scripts_print_their_sums(rt: HostRuntime) -> Result<(), Fail> {
             check(
                 &rt,
                 rt.alloc(),
-                &given(
-                    script.as_bytes(),
-                    Status::Ok,
-                    lines.as_str().as_bytes(),
-                    b"",
-                ),
+                &given(script.as_bytes(), 0, lines.as_str().as_bytes(), b""),
             )?;
-        }
-    }
-    for row in UNBUILT.split('\n') {
-        if let Some((script, place)) = row.split_once(" => ") {
-            check_unbuilt(&rt, rt.alloc(), script, place.parse().unwrap_or(0))?;
         }
     }
     for bytes in [[255].as_slice(), b"println(\xc3)", b"\xed\xa0\x80"] {
         let note = b"julia-tasks: not UTF-8\n";
-        check(&rt, rt.alloc(), &given(bytes, Status::NotText, b"", note))?;
+        check(&rt, rt.alloc(), &given(bytes, 10, b"", note))?;
     }
     let spaced = b"\n  \nprintln(1)\n\n;\nprintln(2)\n";
-    check(&rt, rt.alloc(), &given(spaced, Status::Ok, b"1\n2\n", b""))
+    check(&rt, rt.alloc(), &given(spaced, 0, b"1\n2\n", b""))
 }
 
 const THREE: &[u8] = b"println(1); println(2); println(3)";
@@ -160,7 +122,7 @@ fn check_write_fault(
     rt: &impl Abort,
     alloc: Global,
     failing: &[u64],
-    status: Status,
+    status: u8,
     lines: &[u8],
     note: &[u8],
 ) -> Result<(), Fail> {
@@ -183,7 +145,7 @@ fn check_read_fault(
     rt: &impl Abort,
     alloc: Global,
     failing: &[u64],
-    status: Status,
+    status: u8,
     lines: &[u8],
     note: &[u8],
 ) -> Result<(), Fail> {
@@ -209,7 +171,7 @@ fn check_usage(rt: &impl Abort, alloc: Global, words: &[&str]) -> Result<(), Fai
         failing_reads: &[],
         most_written: 4096,
         failing_writes: &[],
-        status: Status::Usage,
+        status: 2,
         lines: b"",
         note: b"julia-tasks: usage: run, trace, check, draws or gen with options\n",
     };
@@ -225,24 +187,24 @@ fn faults_in_mid_stream(rt: HostRuntime) -> Result<(), Fail> {
             &rt,
             rt.alloc(),
             failing,
-            Status::WriteFault,
+            5,
             lines,
             b"julia-tasks: writing failed\n",
         )?;
     }
-    check_write_fault(&rt, rt.alloc(), &[4], Status::Ok, b"1\n2\n3\n", b"")?;
+    check_write_fault(&rt, rt.alloc(), &[4], 0, b"1\n2\n3\n", b"")?;
     let reads: [&[u64]; 4] = [&[1], &[2], &[3], &[4]];
     for failing in &reads {
         check_read_fault(
             &rt,
             rt.alloc(),
             failing,
-            Status::ReadFault,
+            4,
             b"",
             b"julia-tasks: reading failed\n",
         )?;
     }
-    check_read_fault(&rt, rt.alloc(), &[5], Status::Ok, b"1\n", b"")?;
+    check_read_fault(&rt, rt.alloc(), &[5], 0, b"1\n", b"")?;
     let words: [&[&str]; 6] = [
         &[],
         &["RUN"],
@@ -267,33 +229,37 @@ fn entry(stamp: u32, op: Op) -> Entry {
     }
 }
 
-// As many spaces, and how the command then ends.
-fn check_spaces(
-    rt: &impl Abort,
-    alloc: Global,
-    length: usize,
-    status: Status,
-    number: u8,
-) -> Result<(), Fail> {
+// As many spaces, and the exit status.
+fn check_spaces(rt: &impl Abort, alloc: Global, length: usize, number: u8) -> Result<(), Fail> {
     let words = strings(alloc, &["run"])?;
     let spaces = vec![in alloc; b' '; length]?;
     let mut source = MemorySource::new(alloc, spaces.as_slice(), 100_000, &[])?;
     let mut out = MemorySink::new(alloc, 4096, 4096, &[])?;
     let mut notes = MemorySink::new(alloc, 4096, 4096, &[])?;
     let report = plain_tool(alloc, words.as_slice(), &mut source, &mut out, &mut notes);
-    assert_eq!(rt; report.status, status);
     assert_eq!(rt; report.status.number(), number);
     assert!(rt; out.written().is_empty());
-    assert_eq!(rt; notes.written().is_empty(), status == Status::Ok);
+    assert_eq!(rt; notes.written().is_empty(), number == 0);
     Ok(())
 }
 
-// The entries of a script that prints 3, and how much a script may have.
+// Compares the history of a script that prints 3 and then ends so.
+fn check_history(rt: &impl Abort, alloc: Global, history: &[Entry], end: Op) -> Result<(), Fail> {
+    let mut expected = Vec::new(alloc);
+    expected.push(entry(1, Op::Begin))?;
+    expected.push(entry(2, Op::Print(Text::from_str(alloc, "3")?)))?;
+    expected.push(entry(3, end))?;
+    assert_eq!(rt; history, expected.as_slice());
+    Ok(())
+}
+
+// The entries of scripts that print 3, and how much a script may have.
 #[test]
 fn histories_and_limits(rt: HostRuntime) -> Result<(), Fail> {
     let alloc = rt.alloc();
     let words = strings(alloc, &["run"])?;
     let mut source = MemorySource::new(alloc, b"println(3)\n", 4096, &[])?;
+    let mut failing = MemorySource::new(alloc, b"println(3); div(1, 0); println(4)", 4096, &[])?;
     let mut out = MemorySink::new(alloc, 4096, 4096, &[])?;
     let mut notes = MemorySink::new(alloc, 4096, 4096, &[])?;
     let report = run_tool(
@@ -305,13 +271,44 @@ fn histories_and_limits(rt: HostRuntime) -> Result<(), Fail> {
         &mut notes,
         &OpenGate,
     );
-    assert_eq!(rt; report.status, Status::Ok);
-    assert_eq!(rt; out.written(), b"3\n".as_slice());
-    let mut history = Vec::new(alloc);
-    history.push(entry(1, Op::Begin))?;
-    history.push(entry(2, Op::Print(Text::from_str(alloc, "3")?)))?;
-    history.push(entry(3, Op::End(Value::Nothing)))?;
-    assert_eq!(rt; report.history.as_slice(), history.as_slice());
-    check_spaces(&rt, alloc, 1_048_576, Status::Ok, 0)?;
-    check_spaces(&rt, alloc, 1_048_577, Status::TooLarge, 9)
+    assert_eq!(&rt; report.status, Status::Ok);
+    check_history(
+        &rt,
+        alloc,
+        report.history.as_slice(),
+        Op::End(Value::Nothing),
+    )?;
+    let report = plain_tool(alloc, words.as_slice(), &mut failing, &mut out, &mut notes);
+    assert_eq!(&rt; report.status, Status::MainFailed(Fault::Divide));
+    check_history(
+        &rt,
+        alloc,
+        report.history.as_slice(),
+        Op::Fail(Fault::Divide),
+    )?;
+    assert_eq!(&rt; out.written(), b"3\n3\n".as_slice());
+    check_spaces(&rt, alloc, 1_048_576, 0)?;
+    check_spaces(&rt, alloc, 1_048_577, 9)
+}
+
+// The first entry begins the main task, and the others up to the limit of 262,144 print.
+#[test]
+fn events_are_limited(rt: HostRuntime) -> Result<(), Fail> {
+    let alloc = rt.alloc();
+    let words = strings(alloc, &["run"])?;
+    let script = b"for i in 1:300000; println(i); end";
+    let mut source = MemorySource::new(alloc, script, 4096, &[])?;
+    let mut out = MemorySink::new(alloc, 4096, 2_000_000, &[])?;
+    let mut notes = MemorySink::new(alloc, 4096, 4096, &[])?;
+    let report = plain_tool(alloc, words.as_slice(), &mut source, &mut out, &mut notes);
+    assert_eq!(&rt; report.status, Status::EventLimit);
+    assert_eq!(&rt; report.status.number(), 7);
+    assert_eq!(&rt; report.history.len(), 262_144);
+    assert_eq!(&rt; notes.written(), b"julia-tasks: event limit\n".as_slice());
+    let mut lines = String::new(alloc);
+    for number in 1..262_144_u32 {
+        write!(lines, "{number}\n")?;
+    }
+    assert_eq!(&rt; out.written(), lines.as_str().as_bytes());
+    Ok(())
 }

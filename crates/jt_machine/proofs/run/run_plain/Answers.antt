@@ -1,29 +1,26 @@
-use Rattle.std.proofs.Common.{◌≡◌, ◌+◌, [], ◌∷◌, ◌++◌, length, List, ◌∙◌, sym, subst, rules, arith}
-use Rattle.std.proofs.lemmas.Grind.{common_steps}
+-- Each turn of the loop is one of those of `Sofar`.
+use Rattle.std.proofs.Common.{◌<◌, List, length, sym, subst, arith, rules}
+use Rattle.std.proofs.lemmas.List.{length-map}
 use Rattle.jt_base.specs.declared.entry.Entry.{Entry}
-use Rattle.jt_base.specs.declared.operation.Reply.TheVariants as reply
-use Rattle.jt_machine.proofs.Made.{entry_of}
-use Rattle.jt_machine.proofs.Sofar.{Sofar, room, fits, step, legal, ended}
+use Rattle.jt_program.specs.View.{program_plan, body_plan}
+use Rattle.jt_machine.proofs.Sofar.{Sofar, started, one_more, at_limit, at_end}
 use Rattle.jt_machine.proofs.run.run_plain.Goals as goal
 
-pub note-requires-clause-fits : goal.note-requires-clause-fits
-note-requires-clause-fits c = fits _ _ _ _ c.loop-history.invariant c.reserve_note.new.self c.reserve_note.ensures.script c.reserve_note.ensures.log
+pub loop-history-init : goal.loop-history-init
+loop-history-init c =
+    let P : List Entry → Type 0 = λ h. Sofar (program_plan c.args.program.now) c.args.seeds.now c.args.limits.now c.in_ok-main.main h in
+    let some : 0 < length (program_plan c.args.program.now).tasks = let l = length-map c.args.program.now.tasks body_plan in omega (arith, l, c.requires.main) in
+    subst P (sym c.new-history.ensures.items) (started _ _ _ _ _ c.in_ok-main.ensures c.main.ensures some)
 
-pub loop-history-smaller : goal.loop-history-smaller
-loop-history-smaller c =
-    let r = room _ _ _ _ c.loop-history.invariant _ c.in-Needs.op c.in-Needs.is c.in_ok-op.ensures in
-    grind (arith, common_steps)
+pub returns-then-len-limits : goal.returns-then-len-limits
+returns-then-len-limits c =
+    at_limit _ _ _ _ _ _ _ _ _ c.loop-history.invariant c.in_ok-advance.ensures.ok.says c.in-Needs.is (search rules)
+
+pub returns-in-Some : goal.returns-in-Some
+returns-in-Some c =
+    at_end _ _ _ _ _ _ _ _ _ _ _ c.loop-history.invariant c.in_ok-advance.ensures.ok.says c.in-Needs.is (search rules) (search rules) (search rules)
 
 pub loop-history-preserved : goal.loop-history-preserved
 loop-history-preserved c =
-    let P : List Entry → Type 0 = λ h. Sofar c.args.script.now c.args.seeds.now c.note.new.self h in
-    let more : c.push.new.self.items ≡ c.loop-history.history.items ++ entry_of (length c.loop-history.history.items + 1) c.in-Needs.op ∷ [] = search rules in
-    let log : c.note.new.self.log ≡ c.loop-history.main.log ++ record { stamp = length c.loop-history.history.items + 1; reply = reply.Ok } ∷ [] = search rules in
-    subst P (sym more) (step _ _ _ _ c.loop-history.invariant _ c.in-Needs.op _ c.in-Needs.is c.in_ok-op.ensures
-    (c.note.ensures.script ∙ c.reserve_note.ensures.script) (c.note.ensures.start ∙ c.reserve_note.ensures.start) log)
-
-pub returns-in-Over-clause-legal : goal.returns-in-Over-clause-legal
-returns-in-Over-clause-legal c = legal _ _ _ _ c.loop-history.invariant _ c.in-Over.is c.in_ok-op.ensures c.requires.short
-
-pub returns-in-Over-clause-ended : goal.returns-in-Over-clause-ended
-returns-in-Over-clause-ended c = ended _ _ _ _ c.loop-history.invariant _ c.in-Over.is c.in_ok-op.ensures
+    one_more _ _ _ _ _ _ _ _ _ _ _ _ _ c.loop-history.invariant c.in_ok-advance.ensures.ok c.in_ok-advance.ensures.goes_on c.in-Needs.is (search rules)
+    (search rules) c.in_ok-reserve_note-in-Needs.ensures.kept (search rules) c.note.ensures (search rules)

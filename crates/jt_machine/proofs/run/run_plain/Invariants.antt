@@ -1,11 +1,11 @@
-use Rattle.std.proofs.Common.{◌+◌, ◌-◌, length}
+use Rattle.std.proofs.Common.{◌+◌, ◌-◌, ◌*◌, length}
+use Rattle.jt_program.specs.View.{program_plan}
 use Rattle.jt_machine.proofs.Sofar.{Sofar}
 use Rattle.jt_machine.proofs.run.run_plain.Given as goal
 
--- the history so far, and the entries that are left of the whole one
 abbrev pub invariant-loop-history : goal.invariant-loop-history
-invariant-loop-history l =
-    Sofar l.script l.seeds l.main l.history.items
+invariant-loop-history l = Sofar (program_plan l.program) l.seeds l.limits l.main l.history.items
 
+-- the entries that may still come, and for each the most turns; and the turns that are left
 abbrev pub decreases-loop-history : goal.decreases-loop-history
-decreases-loop-history l = length l.script.tops + 2 - length l.history.items
+decreases-loop-history l = (l.limits.events - length l.history.items) * (l.limits.turns + 1) + (l.limits.turns - l.main.taken)

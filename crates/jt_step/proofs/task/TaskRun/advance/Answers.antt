@@ -1,21 +1,29 @@
-use Rattle.std.proofs.Common.{length, ◌-◌, rules, arith}
-use Rattle.std.proofs.lemmas.Grind.{common_steps}
-use Rattle.jt_step.proofs.Built.{built_at}
-use Rattle.jt_step.proofs.Order.{print_comes, end_comes, over_comes}
+-- The machine goes on, and tells what comes next.
+use Rattle.std.proofs.Common.{◌≡◌, ◌++◌, [], List, map, refl, sym, ap, ◌∙◌, append-nil}
+use Rattle.jt_program.specs.View.{body_plan, program_plan}
+use Rattle.jt_step.specs.Meaning.{task}
+use Rattle.jt_step.specs.Task.{seen}
+use Rattle.jt_step.specs.Tasks.{reply_of_note}
+use Rattle.jt_step.proofs.Laws.{goes_on}
+use Rattle.jt_step.proofs.Tells.{run_says, needs_comes}
 use Rattle.jt_step.proofs.task.TaskRun.advance.Goals as goal
 
-pub line_of-requires : goal.line_of-requires
-line_of-requires c = record { built = built_at c.self.inside.script.now.tops (length c.self.inside.log.items - 1) c.in-Some.top.now c.self.invariant.0 (search rules) }
+pub returns-clause-ok : goal.returns-clause-ok
+returns-clause-ok c =
+    let f = c.if-self.false in
+    let i = c.self.inside in
+    let same = c.self.invariant.same f [] ∙ ap (task (program_plan i.program.now) i.limit i.start.code) (append-nil (map reply_of_note i.log.items)) in
+    let runs = rw (c.replace-mode.ensures.value, c.as_slice.ensures, c.as_slice-2.ensures.value) at c.in_ok-mode.ensures in
+    rw (← c.self.view_is) (record {
+      kept = rw f refl;
+      says = run_says (map body_plan i.program.now.functions) i.machine c.run_on.new.self i.mode c.in_ok-mode.mode (seen i) i.used c.in_ok-mode.used c.args.turns _ (c.self.invariant.few f) refl same runs c.in_ok-told.ensures;
+    })
 
-pub returns-in_ok-text-in-Some : goal.returns-in_ok-text-in-Some
-returns-in_ok-text-in-Some c =
-    rw (← c.self.view_is) (print_comes c.self.inside.script.now.tops c.self.inside.log.items c.self.invariant.0 c.self.invariant.1 (length c.self.inside.log.items - 1) c.in-Some.top.now c.in_ok-text-in-Some.text
-    (grind (arith, common_steps)) (search rules) (search rules))
-
-pub returns-in-None : goal.returns-in-None
-returns-in-None c =
-    rw (← c.self.view_is) (end_comes c.self.inside.script.now.tops c.self.inside.log.items c.self.invariant.0 c.self.invariant.1 (grind (arith, common_steps)))
-
-pub returns-in-None-2 : goal.returns-in-None-2
-returns-in-None-2 c =
-    rw (← c.self.view_is) (over_comes c.self.inside.script.now.tops c.self.inside.log.items c.self.invariant.0 c.self.invariant.1 (length c.self.inside.log.items - 1) (grind (arith, common_steps)) (search rules) (λ q. grind (arith, common_steps)))
+pub returns-clause-goes_on : goal.returns-clause-goes_on
+returns-clause-goes_on c = λ op r told can.
+    let f = c.if-self.false in
+    let i = c.self.inside in
+    let same = c.self.invariant.same f [] ∙ ap (task (program_plan i.program.now) i.limit i.start.code) (append-nil (map reply_of_note i.log.items)) in
+    let runs = rw (c.replace-mode.ensures.value, c.as_slice.ensures, c.as_slice-2.ensures.value) at c.in_ok-mode.ensures in
+    let comes = needs_comes (map body_plan i.program.now.functions) i.machine c.run_on.new.self i.mode c.in_ok-mode.mode (seen i) i.used c.in_ok-mode.used c.args.turns _ op same runs c.in_ok-told.ensures told in
+    goes_on (program_plan i.program.now) i.limit [] i.start (map reply_of_note i.log.items) op r comes can

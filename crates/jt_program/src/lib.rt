@@ -1,0 +1,9 @@
+//! Programs: scripts whose names are bound and whose functions, task bodies and variables are
+//! numbered.
+#![tactic(auto)]
+
+mod code;
+mod program;
+
+pub use code::{Arm, BinaryOperator, BuiltIn, Callee, Code, Literal, Piece};
+pub use program::{Body, Program};

@@ -1,0 +1,6 @@
+pub mod After
+pub mod Count
+pub mod Examples
+pub mod Lookup
+pub mod Meant
+pub mod Order

@@ -1,0 +1,10 @@
+-- The operator's value is the first operand of those that are left.
+use Rattle.std.proofs.Common.{arith}
+use Rattle.jt_step.proofs.Moves.{gives_by, gives_fault}
+use Rattle.jt_step.proofs.machine.Machine.give_operand.Goals as goal
+
+pub returns-in_ok-next_operand-in-Ok : goal.returns-in_ok-next_operand-in-Ok
+returns-in_ok-next_operand-in-Ok c = λ functions. gives_by functions _ _ _ _ _ _ _ (c.in_ok-next_operand-in-Ok.ensures functions) (λ s. rw (← c.in-Ok.ensures)) (omega arith)
+
+pub returns-in-Err : goal.returns-in-Err
+returns-in-Err c = λ functions. gives_fault functions _ _ _ _ (λ s. rw (← c.in-Err.ensures))

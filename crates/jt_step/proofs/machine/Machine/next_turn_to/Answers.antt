@@ -1,0 +1,20 @@
+-- Each frame but those of a call and of a loop lets the `continue` through.
+use Rattle.std.proofs.Common.{ap, sym, refl, arith}
+use Rattle.jt_step.specs.Stack.{resume}
+use Rattle.jt_step.proofs.Weights.{frame_least}
+use Rattle.jt_step.proofs.Unwinds.{on_passes}
+use Rattle.jt_step.proofs.machine.Machine.next_turn_to.Goals as goal
+
+pub returns-in-Loop : goal.returns-in-Loop
+returns-in-Loop c = λ functions. rw c.in-Loop.is (record {
+  same = λ rs. c.in_ok-mode-in-Loop.ensures.same functions rs;
+  less = c.in_ok-mode-in-Loop.ensures.less;
+  turns = c.in_ok-mode-in-Loop.ensures.turns;
+})
+
+pub returns : goal.returns
+returns c = λ functions. record {
+  same = λ rs. ap (resume functions c.args.self.now.frames.items) (sym (on_passes functions c.args.frame (λ vars n e. c.in_default.not-Call vars n e) (λ l e. c.in_default.not-Loop l e) _));
+  less = omega (arith, frame_least c.args.frame);
+  turns = refl;
+}

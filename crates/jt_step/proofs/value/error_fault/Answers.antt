@@ -1,0 +1,15 @@
+-- UTF-8 is its own text, and other bytes have none.
+use Rattle.std.proofs.Common.{◌∙◌, ap, sym}
+use Rattle.jt_base.specs.declared.operation.Fault.TheVariants.{Error}
+use Rattle.jt_step.specs.Values.{error_of}
+use Rattle.jt_step.proofs.Utf8.{text_of-valid, text_of-broken}
+use Rattle.jt_step.proofs.value.error_fault.Goals as goal
+
+pub returns-in_ok-from_str-in-Ok : goal.returns-in_ok-from_str-in-Ok
+returns-in_ok-from_str-in-Ok c =
+    ap Error (c.in_ok-from_str-in-Ok.ensures ∙ c.in-Ok.ensures.cases.0)
+    ∙ sym (ap error_of (text_of-valid c.args.bytes.now c.in-Ok.ensures.cases.1))
+
+pub returns-in-Err : goal.returns-in-Err
+returns-in-Err c =
+    sym (ap error_of (text_of-broken c.args.bytes.now _ c.in-Err.ensures.valid_len c.in-Err.ensures.cases.1))

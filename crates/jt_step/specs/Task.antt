@@ -1,0 +1,60 @@
+-- A task's run and the meaning.
+use Rattle.std.specs.Prelude.{◌≡◌, ℕ, ◌-◌, ◌≤◌, List, ◌++◌, Option, Some, None, map, length, vec_capacity, false}
+use denote.Bor.{Bor}
+use Rattle.jt_base.specs.declared.operation.Op.TheVariants as op
+use Rattle.jt_base.specs.declared.operation.Reply.{Reply}
+use Rattle.jt_base.specs.declared.value.Value.TheVariants.{Int}
+use Rattle.jt_laws.specs.Coming.{Next}
+use Rattle.jt_laws.specs.Coming as next
+use Rattle.jt_program.specs.declared.code.Code.{Code}
+use Rattle.jt_program.specs.View.{body_plan, program_plan}
+use Rattle.jt_step.specs.declared.frame.Loop.{Loop}
+use Rattle.jt_step.specs.declared.frame.Loop.TheVariants as loop
+use Rattle.jt_step.specs.declared.mode.Mode.{Mode}
+use Rattle.jt_step.specs.declared.mode.Mode.TheVariants as mode
+use Rattle.jt_step.specs.declared.start.Start.{Start}
+use Rattle.jt_step.specs.declared.task.TaskRun.TheInside.{Inside}
+use Rattle.jt_step.specs.State.{State, renew, renew_with}
+use Rattle.jt_step.specs.Meaning.{task}
+use Rattle.jt_step.specs.Stack.{at, unused}
+use Rattle.jt_step.specs.Tasks.{Task, reply_of_note}
+
+-- ---- turns
+
+-- the body of a loop
+abbrev pub body_in : Loop → Bor Code
+body_in (loop.While first count c b) = b
+body_in (loop.Range first count b i last) = b
+
+-- the state in which a turn of a loop begins
+abbrev pub turned : Loop → State → State
+turned (loop.While first count c b) s = renew first count s
+turned (loop.Range first count b i last) s = renew_with first count (Int i) s
+
+-- ---- tasks
+
+-- what an advance that stops here tells
+abbrev pub mode_tells : Mode → Option (Next Start)
+mode_tells (mode.Begins e) = Some (next.Needs op.Begin)
+mode_tells (mode.Waits o) = Some (next.Needs o)
+mode_tells (mode.Ending v) = Some (next.Needs (op.End v))
+mode_tells (mode.Failing f) = Some (next.Needs (op.Fail f))
+mode_tells mode.Over = Some next.Over
+mode_tells _ = None
+
+abbrev pub seen : Inside → Task
+seen t = record {
+  program = program_plan t.program.now;
+  limit = t.limit;
+  start = t.start;
+  log = t.log.items;
+  room = vec_capacity t.log - length t.log.items;
+  taken = t.limit - t.machine.turns;
+  failed = t.failed;
+}
+
+-- the machine is where the meaning is after the notes that it has had
+pub record Holds (t : Inside) : Type 0 where
+  pub same : t.failed ≡ false → (rs : List Reply) → at (map body_plan t.program.now.functions) t.machine t.mode (unused t.log.items t.used ++ rs) ≡ task (program_plan t.program.now) t.limit t.start.code (map reply_of_note t.log.items ++ rs)
+  pub within : t.used ≤ length t.log.items
+  pub few : t.failed ≡ false → t.machine.turns ≤ t.limit

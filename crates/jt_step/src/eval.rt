@@ -1,0 +1,85 @@
+//! How a machine begins a part.
+
+ghost use Rattle.std.specs.Prelude.{◌≡◌, ◌+◌, List, IfOk, slice_get};
+ghost use Rattle.jt_program.specs.Plan.{BodyPlan};
+ghost use Rattle.jt_program.specs.View.{plan_of};
+ghost use Rattle.jt_step.specs.Moves.{Does, known_mode};
+ghost use Rattle.jt_step.specs.State.{State};
+ghost use Rattle.jt_step.specs.Stack.{Follows, after, does, frame_weight, weight};
+
+use crate::frame::Frame;
+use crate::line::Line;
+use crate::machine::Machine;
+use crate::mode::Mode;
+use crate::value::{error_fault, literal_value};
+use jt_base::{Fault, OutOfMemory, Value};
+use jt_program::Code;
+use sqlite_items::{Items, at};
+use std::alloc::Global;
+
+impl<'p> Machine<'p> {
+    /// Begins a part.
+    pub(crate) fn eval(&mut self, alloc: Global, e: &'p Code) -> Result<Mode<'p>, OutOfMemory>
+        ensures { IfOk result (λ m. (functions : List BodyPlan) → Follows functions self.old (Mode.Eval e.entry) self.new m) }
+    {
+        match e {
+            Code::Literal(literal) => Ok(Mode::Gave(literal_value(*literal))),
+            Code::Variable(slot) => Ok(known(self.variables.as_slice(), *slot)),
+            Code::Constant(number) => Ok(known(self.constants.as_slice(), *number)),
+            Code::Assign(slot, e) => Ok(self.begin_with(Frame::Assign(*slot), e.get())?),
+            Code::Define(number, e) => Ok(self.begin_with(Frame::Define(*number), e.get())?),
+            Code::Unary(operator, e) => Ok(self.begin_with(Frame::Unary(*operator), e.get())?),
+            Code::Operation(e, es) => Ok(self.begin_with(Frame::Operands(es.as_slice()), e.get())?),
+            Code::Comparison(e, es) => Ok(self.begin_with(
+                Frame::Comparisons(es.as_slice()),
+                e.get(),
+            )?),
+            Code::Connection(connective, e, es) => Ok(self.begin_with(
+                Frame::Connection(*connective, es.as_slice()),
+                e.get(),
+            )?),
+            Code::Branch(arms, otherwise) => Ok(self.next_arm(arms.as_slice(), otherwise.get())?),
+            Code::Block(es) => Ok(self.next_part(Value::Nothing, es.as_slice())?),
+            Code::While(first, count, condition, body) => Ok(self.begin_with(
+                Frame::Condition(*first, *count, condition.get(), body.get()),
+                condition.get(),
+            )?),
+            Code::For(first, count, low, high, body) => Ok(self.begin_with(
+                Frame::Low(*first, *count, high.get(), body.get()),
+                low.get(),
+            )?),
+            Code::Call(callee, es) => Ok(self.next_argument(
+                *callee,
+                Items::new(alloc),
+                es.as_slice(),
+            )?),
+            Code::Print(pieces) => Ok(self.next_piece(alloc, pieces.as_slice(), Line::new(alloc))?),
+            Code::Error(text) => Ok(Mode::Faulted(error_fault(alloc, text.as_slice())?)),
+            Code::Return(e) => Ok(self.begin_with(Frame::Return, e.get())?),
+            Code::Break => Ok(Mode::Broke),
+            Code::Continue => Ok(Mode::Continued),
+        }
+    }
+
+    /// Begins a part whose end this frame has.
+    pub(crate) fn begin_with(
+        &mut self,
+        frame: Frame<'p>,
+        e: &'p Code,
+    ) -> Result<Mode<'p>, OutOfMemory>
+        ensures { IfOk result (λ m. (functions : List BodyPlan) → Does functions self.old (λ (s : State). after functions frame.entry (does functions (plan_of e.entry.now) s)) (weight (plan_of e.entry.now) + frame_weight frame.entry + 1) self.new m) }
+    {
+        self.frames.push(frame)?;
+        Ok(Mode::Eval(e))
+    }
+}
+
+/// What stands in this slot.
+fn known<'p>(slots: &[Option<Value>], slot: usize) -> Mode<'p>
+    ensures { result ≡ known_mode (slice_get slots.now slot) }
+{
+    match at(slots, slot) {
+        Some(Some(value)) => Mode::Gave(value.copy()),
+        _ => Mode::Faulted(Fault::Undefined),
+    }
+}

@@ -1,0 +1,55 @@
+//! What is left to do once a part has ended.
+
+use crate::line::Line;
+use jt_base::Value;
+use jt_program::{Arm, BinaryOperator, Callee, Code, Piece};
+use jt_syntax::{ComparisonOperator, Connective, UnaryOperator};
+use sqlite_items::Items;
+
+/// A loop whose turns go on. Its own variables are in the slots from the first number on, as many as
+/// the second says.
+#[derive(Clone, Copy)]
+pub enum Loop<'p> {
+    /// A condition and a body.
+    While(usize, usize, &'p Code, &'p Code),
+    /// A body, the number of this turn and the last one.
+    Range(usize, usize, &'p Code, i64, i64),
+}
+
+/// What is left to do once a part has ended.
+#[derive(Drop)]
+pub enum Frame<'p> {
+    Assign(usize),
+    Define(usize),
+    Unary(UnaryOperator),
+    /// The operands behind the first one.
+    Operands(&'p [(BinaryOperator, Code)]),
+    /// An operator, the value so far, and the operands behind the one that is evaluated.
+    Operand(BinaryOperator, Value, &'p [(BinaryOperator, Code)]),
+    /// The comparisons behind the first operand.
+    Comparisons(&'p [(ComparisonOperator, Code)]),
+    /// A comparison, its first operand, and the comparisons behind it.
+    Compared(ComparisonOperator, Value, &'p [(ComparisonOperator, Code)]),
+    /// The operands that are left.
+    Connection(Connective, &'p [Code]),
+    /// The body of the arm whose condition is evaluated, the other arms, and what is done where none
+    /// holds.
+    Choice(&'p Code, &'p [Arm], &'p Code),
+    /// What stands behind in a block.
+    Rest(&'p [Code]),
+    /// A loop whose condition is evaluated: its own variables as in `Loop`, condition and body.
+    Condition(usize, usize, &'p Code, &'p Code),
+    /// A loop over numbers whose lower bound is evaluated: the upper one, and its body.
+    Low(usize, usize, &'p Code, &'p Code),
+    /// A loop over numbers whose upper bound is evaluated: the lower one, and its body.
+    High(usize, usize, Value, &'p Code),
+    /// A loop whose body runs.
+    Loop(Loop<'p>),
+    /// The arguments that are left, and the values of those before the one that is evaluated.
+    Arguments(Callee, &'p [Code], Items<Value>),
+    /// The items that are left, and the text of those before the one that is evaluated.
+    Pieces(&'p [Piece], Line),
+    /// A call: the caller's variables, and how many calls were open.
+    Call(Items<Option<Value>>, u32),
+    Return,
+}

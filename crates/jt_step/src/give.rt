@@ -1,0 +1,198 @@
+//! How a machine goes on with the value of a part.
+
+ghost use Rattle.std.specs.Prelude.{◌≡◌, ◌<◌, ◌+◌, ◌+ℤ◌, pos, int_lt, List, IfOk};
+ghost use Rattle.jt_base.specs.declared.operation.Reply.{Reply};
+ghost use Rattle.jt_program.specs.Plan.{BodyPlan};
+ghost use Rattle.jt_step.specs.Meaning.{go};
+ghost use Rattle.jt_step.specs.Moves.{bounds_mode, range_mode, turn_mode};
+ghost use Rattle.jt_step.specs.Stack.{Follows, Hands, at, frames_weight, later_of, loop_weight, resume, state_of, work};
+ghost use Rattle.jt_step.specs.State.{Gave};
+
+use crate::frame::{Frame, Loop};
+use crate::machine::Machine;
+use crate::mode::Mode;
+use crate::row::valued;
+use crate::value::{apply_unary, compare, operate};
+use crate::variables::assign;
+use jt_base::{Fault, OutOfMemory, Value};
+use jt_program::{Arm, BinaryOperator, Code};
+use jt_syntax::ComparisonOperator;
+use std::alloc::Global;
+
+impl<'p> Machine<'p> {
+    /// A part gave a value.
+    pub(crate) fn give(&mut self, alloc: Global, v: Value) -> Result<Mode<'p>, OutOfMemory>
+        ensures { IfOk result (λ m. (functions : List BodyPlan) → Follows functions self.old (Mode.Gave v) self.new m) }
+    {
+        match self.frames.pop() {
+            None => Ok(Mode::Ending(v)),
+            Some(frame) => Ok(self.give_to(alloc, frame, v)?),
+        }
+    }
+
+    /// A part gave a value to this frame.
+    fn give_to(
+        &mut self,
+        alloc: Global,
+        frame: Frame<'p>,
+        v: Value,
+    ) -> Result<Mode<'p>, OutOfMemory>
+        ensures { IfOk result (λ m. (functions : List BodyPlan) → Hands functions self.old frame.entry (Gave v) self.new m) }
+    {
+        match frame {
+            Frame::Assign(slot) => {
+                assign(&mut self.variables, slot, v.copy());
+                Ok(Mode::Gave(v))
+            }
+            Frame::Define(number) => {
+                assign(&mut self.constants, number, v.copy());
+                Ok(Mode::Gave(v))
+            }
+            Frame::Unary(operator) => Ok(valued(apply_unary(operator, &v))),
+            Frame::Operands(es) => Ok(self.next_operand(v, es)?),
+            Frame::Operand(operator, w, es) => Ok(self.give_operand(operator, w, v, es)?),
+            Frame::Comparisons(es) => Ok(self.next_comparison(v, es)?),
+            Frame::Compared(operator, w, es) => Ok(self.give_compared(operator, w, v, es)?),
+            Frame::Connection(connective, es) => Ok(self.next_connected(connective, v, es)?),
+            Frame::Choice(e, arms, otherwise) => Ok(self.give_condition(v, e, arms, otherwise)?),
+            Frame::Rest(es) => Ok(self.next_part(v, es)?),
+            Frame::Condition(first, count, condition, body) => Ok(turn_of(
+                v,
+                Loop::While(first, count, condition, body),
+            )),
+            Frame::Low(first, count, high, body) => Ok(self.begin_with(
+                Frame::High(first, count, v, body),
+                high,
+            )?),
+            Frame::High(first, count, low, body) => Ok(turns_between(first, count, body, low, v)),
+            Frame::Loop(l) => Ok(self.go_on(l)?),
+            Frame::Arguments(callee, es, mut vs) => {
+                vs.push(v)?;
+                Ok(self.next_argument(callee, vs, es)?)
+            }
+            Frame::Pieces(pieces, mut line) => {
+                line.push_value(&v)?;
+                Ok(self.next_piece(alloc, pieces, line)?)
+            }
+            Frame::Call(variables, open_calls) => {
+                self.variables = variables;
+                self.open_calls = open_calls;
+                Ok(Mode::Gave(v))
+            }
+            Frame::Return => Ok(Mode::Returned(v)),
+        }
+    }
+
+    /// Both operands of an operator have their values.
+    fn give_operand(
+        &mut self,
+        operator: BinaryOperator,
+        v: Value,
+        w: Value,
+        es: &'p [(BinaryOperator, Code)],
+    ) -> Result<Mode<'p>, OutOfMemory>
+        ensures { IfOk result (λ m. (functions : List BodyPlan) → Hands functions self.old (Frame.Operand operator v es.entry) (Gave w) self.new m) }
+    {
+        match operate(operator, &v, &w) {
+            Ok(value) => Ok(self.next_operand(value, es)?),
+            Err(fault) => Ok(Mode::Faulted(fault)),
+        }
+    }
+
+    /// Both operands of a comparison have their values.
+    fn give_compared(
+        &mut self,
+        operator: ComparisonOperator,
+        v: Value,
+        w: Value,
+        es: &'p [(ComparisonOperator, Code)],
+    ) -> Result<Mode<'p>, OutOfMemory>
+        ensures { IfOk result (λ m. (functions : List BodyPlan) → Hands functions self.old (Frame.Compared operator v es.entry) (Gave w) self.new m) }
+    {
+        match compare(operator, &v, &w) {
+            Some(true) => Ok(self.next_comparison(w, es)?),
+            Some(false) => Ok(Mode::Gave(Value::Flag(false))),
+            None => Ok(Mode::Faulted(Fault::Method)),
+        }
+    }
+
+    /// The condition of an arm has its value.
+    fn give_condition(
+        &mut self,
+        v: Value,
+        e: &'p Code,
+        arms: &'p [Arm],
+        otherwise: &'p Code,
+    ) -> Result<Mode<'p>, OutOfMemory>
+        ensures { IfOk result (λ m. (functions : List BodyPlan) → Hands functions self.old (Frame.Choice e.entry arms.entry otherwise.entry) (Gave v) self.new m) }
+    {
+        match v {
+            Value::Flag(true) => Ok(Mode::Eval(e)),
+            Value::Flag(false) => Ok(self.next_arm(arms, otherwise)?),
+            _ => Ok(Mode::Faulted(Fault::Method)),
+        }
+    }
+
+    /// Goes on with a loop whose body has ended.
+    pub(crate) fn go_on(&mut self, l: Loop<'p>) -> Result<Mode<'p>, OutOfMemory>
+        ensures same { IfOk result (λ m. (functions : List BodyPlan) (rs : List Reply) → at functions self.new m rs ≡ resume functions self.old.frames.items (go functions (later_of l.entry) (state_of self.old rs))) }
+        ensures less { IfOk result (λ m. work self.new m < 1 + loop_weight l.entry + frames_weight self.old.frames.items) }
+        ensures turns { IfOk result (λ m. self.new.turns ≡ self.old.turns) }
+    {
+        match l {
+            Loop::While(first, count, condition, body) => {
+                self.frames
+                    .push(Frame::Condition(first, count, condition, body))?;
+                Ok(Mode::Eval(condition))
+            }
+            Loop::Range(first, count, body, i, last) => Ok(next_number(
+                first, count, body, i, last,
+            )),
+        }
+    }
+}
+
+/// Before a turn of a loop, or at its end, by its condition.
+fn turn_of<'p>(v: Value, l: Loop<'p>) -> Mode<'p>
+    ensures { result ≡ turn_mode v l.entry }
+{
+    match v {
+        Value::Flag(true) => Mode::Again(l),
+        Value::Flag(false) => Mode::Gave(Value::Nothing),
+        _ => Mode::Faulted(Fault::Method),
+    }
+}
+
+/// Before the first turn of a loop between two numbers, or at its end where there is none.
+fn turns_between<'p>(
+    first: usize,
+    count: usize,
+    body: &'p Code,
+    low: Value,
+    high: Value,
+) -> Mode<'p>
+    ensures { result ≡ bounds_mode first count body.entry low high }
+{
+    match (low, high) {
+        (Value::Int(low), Value::Int(high)) => {
+            if low <= high {
+                Mode::Again(Loop::Range(first, count, body, low, high))
+            } else {
+                Mode::Gave(Value::Nothing)
+            }
+        }
+        _ => Mode::Faulted(Fault::Method),
+    }
+}
+
+/// Before the turn that follows this one of a loop over numbers, or at its end. `last` may be the
+/// largest number.
+fn next_number<'p>(first: usize, count: usize, body: &'p Code, i: i64, last: i64) -> Mode<'p>
+    ensures { result ≡ range_mode (int_lt i last) (Loop.Range first count body.entry (i +ℤ pos 1) last) }
+{
+    if i < last {
+        Mode::Again(Loop::Range(first, count, body, i + 1, last))
+    } else {
+        Mode::Gave(Value::Nothing)
+    }
+}

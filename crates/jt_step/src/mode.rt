@@ -1,0 +1,52 @@
+//! What a machine is at.
+
+ghost use Rattle.std.specs.Prelude.{◌≡◌, IfOk};
+ghost use Rattle.jt_step.specs.Task.{mode_tells};
+ghost use Rattle.jt_step.specs.Tasks.{told};
+
+use crate::frame::Loop;
+use crate::task::Advance;
+use jt_base::{Fault, Op, OutOfMemory, Value};
+use jt_program::Code;
+use sqlite_items::{Boxed, Items};
+use std::alloc::Global;
+
+/// What a machine is at.
+#[derive(Drop)]
+pub enum Mode<'p> {
+    /// Before the beginning of this body.
+    Begins(&'p Code),
+    Eval(&'p Code),
+    Gave(Value),
+    Returned(Value),
+    Broke,
+    Continued,
+    Faulted(Fault),
+    /// Before a call of the function of this number.
+    Enter(usize, Items<Value>),
+    /// Before a turn of a loop.
+    Again(Loop<'p>),
+    /// An operation waits for its reply.
+    Waits(Boxed<Op>),
+    Ending(Value),
+    Failing(Fault),
+    Over,
+    /// A reply was none that its operation can have.
+    Unfit,
+}
+
+impl Mode<'_> {
+    /// What an advance that stops here tells.
+    pub fn told(&self, alloc: Global) -> Result<Advance, OutOfMemory>
+        ensures { IfOk result (λ a. told a ≡ mode_tells self.now) }
+    {
+        match self {
+            Mode::Begins(_) => Ok(Advance::Needs(Op::Begin)),
+            Mode::Waits(op) => Ok(Advance::Needs(op.get().copy(alloc)?)),
+            Mode::Ending(v) => Ok(Advance::Needs(Op::End(v.copy()))),
+            Mode::Failing(fault) => Ok(Advance::Needs(Op::Fail(fault.copy(alloc)?))),
+            Mode::Over => Ok(Advance::Over),
+            _ => Ok(Advance::More),
+        }
+    }
+}

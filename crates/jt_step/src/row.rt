@@ -1,0 +1,158 @@
+//! What follows in a row: the next operand, argument, arm or part of a block.
+
+ghost use Rattle.std.specs.Prelude.{◌≡◌, ◌∷◌, ◌+◌, [], List, IfOk, MatchOption};
+ghost use Rattle.jt_program.specs.Plan.{BodyPlan};
+ghost use Rattle.jt_program.specs.View.{plan_of, plans};
+ghost use Rattle.jt_step.specs.Meaning.{go, run_all, run_arguments, run_choices, run_comparisons, run_connection, run_operands};
+ghost use Rattle.jt_step.specs.Moves.{Does, asking, valued_mode};
+ghost use Rattle.jt_step.specs.Stack.{choices_in, choices_weight, comparisons_in, comparisons_weight, does, operands_in, operands_weight, plans_weight, weight};
+
+use crate::frame::Frame;
+use crate::machine::Machine;
+use crate::mode::Mode;
+use crate::value::apply;
+use jt_base::{Fault, OutOfMemory, Value};
+use jt_program::{Arm, BinaryOperator, Callee, Code};
+use jt_syntax::{ComparisonOperator, Connective};
+use sqlite_items::Items;
+
+impl<'p> Machine<'p> {
+    /// Goes on with the parts of a block that are left; `v` is the value of the one before.
+    pub(crate) fn next_part(&mut self, v: Value, es: &'p [Code]) -> Result<Mode<'p>, OutOfMemory>
+        ensures { IfOk result (λ m. (functions : List BodyPlan) → Does functions self.old (run_all functions (go functions) v (plans es.now)) (plans_weight (plans es.now) + 1) self.new m) }
+    {
+        match first_of(es) {
+            None => Ok(Mode::Gave(v)),
+            Some((e, rest)) => {
+                self.frames.push(Frame::Rest(rest))?;
+                Ok(Mode::Eval(e))
+            }
+        }
+    }
+
+    /// Goes on with the operands that are left; `v` is the value so far.
+    pub(crate) fn next_operand(
+        &mut self,
+        v: Value,
+        es: &'p [(BinaryOperator, Code)],
+    ) -> Result<Mode<'p>, OutOfMemory>
+        ensures { IfOk result (λ m. (functions : List BodyPlan) → Does functions self.old (run_operands functions (go functions) v (operands_in es.now)) (operands_weight (operands_in es.now) + 1) self.new m) }
+    {
+        match first_of(es) {
+            None => Ok(Mode::Gave(v)),
+            Some((first, rest)) => {
+                let (operator, e) = first;
+                self.frames.push(Frame::Operand(*operator, v, rest))?;
+                Ok(Mode::Eval(e))
+            }
+        }
+    }
+
+    /// Goes on with the comparisons that are left; `v` is the operand before them.
+    pub(crate) fn next_comparison(
+        &mut self,
+        v: Value,
+        es: &'p [(ComparisonOperator, Code)],
+    ) -> Result<Mode<'p>, OutOfMemory>
+        ensures { IfOk result (λ m. (functions : List BodyPlan) → Does functions self.old (run_comparisons functions (go functions) v (comparisons_in es.now)) (comparisons_weight (comparisons_in es.now) + 1) self.new m) }
+    {
+        match first_of(es) {
+            None => Ok(Mode::Gave(Value::Flag(true))),
+            Some((first, rest)) => {
+                let (operator, e) = first;
+                self.frames.push(Frame::Compared(*operator, v, rest))?;
+                Ok(Mode::Eval(e))
+            }
+        }
+    }
+
+    /// Goes on with the operands of `&&` or `||` that are left, unless the last value decides.
+    pub(crate) fn next_connected(
+        &mut self,
+        connective: Connective,
+        v: Value,
+        es: &'p [Code],
+    ) -> Result<Mode<'p>, OutOfMemory>
+        ensures { IfOk result (λ m. (functions : List BodyPlan) → Does functions self.old (run_connection functions (go functions) connective v (plans es.now)) (plans_weight (plans es.now) + 1) self.new m) }
+    {
+        match first_of(es) {
+            None => Ok(Mode::Gave(v)),
+            Some((e, rest)) => match v {
+                Value::Flag(flag) => {
+                    if flag == asking(connective) {
+                        self.frames.push(Frame::Connection(connective, rest))?;
+                        Ok(Mode::Eval(e))
+                    } else {
+                        Ok(Mode::Gave(Value::Flag(flag)))
+                    }
+                }
+                _ => Ok(Mode::Faulted(Fault::Method)),
+            },
+        }
+    }
+
+    /// Goes on with the arms of a branch that are left.
+    pub(crate) fn next_arm(
+        &mut self,
+        arms: &'p [Arm],
+        otherwise: &'p Code,
+    ) -> Result<Mode<'p>, OutOfMemory>
+        ensures { IfOk result (λ m. (functions : List BodyPlan) → Does functions self.old (run_choices functions (go functions) (choices_in arms.now) (does functions (plan_of otherwise.entry.now))) (choices_weight (choices_in arms.now) + weight (plan_of otherwise.entry.now) + 1) self.new m) }
+    {
+        match first_of(arms) {
+            None => Ok(Mode::Eval(otherwise)),
+            Some((arm, rest)) => {
+                self.frames.push(Frame::Choice(&arm.body, rest, otherwise))?;
+                Ok(Mode::Eval(&arm.condition))
+            }
+        }
+    }
+
+    /// Goes on with the arguments that are left, and calls; `vs` are the values so far.
+    pub(crate) fn next_argument(
+        &mut self,
+        callee: Callee,
+        vs: Items<Value>,
+        es: &'p [Code],
+    ) -> Result<Mode<'p>, OutOfMemory>
+        ensures { IfOk result (λ m. (functions : List BodyPlan) → Does functions self.old (run_arguments functions (go functions) callee vs (plans es.now)) (plans_weight (plans es.now) + 1) self.new m) }
+    {
+        match first_of(es) {
+            None => match callee {
+                Callee::Function(number) => Ok(Mode::Enter(number, vs)),
+                Callee::BuiltIn(function) => Ok(valued(apply(function, vs.as_slice()))),
+            },
+            Some((e, rest)) => {
+                self.frames.push(Frame::Arguments(callee, rest, vs))?;
+                Ok(Mode::Eval(e))
+            }
+        }
+    }
+}
+
+/// The truth value that asks for the next operand.
+fn asking(connective: Connective) -> bool
+    ensures { result ≡ asking connective }
+{
+    match connective {
+        Connective::And => true,
+        Connective::Or => false,
+    }
+}
+
+/// A value, or a fault.
+pub(crate) fn valued<'p>(outcome: Result<Value, Fault>) -> Mode<'p>
+    ensures { result ≡ valued_mode outcome }
+{
+    match outcome {
+        Ok(value) => Mode::Gave(value),
+        Err(fault) => Mode::Faulted(fault),
+    }
+}
+
+/// The first item and the others.
+pub(crate) fn first_of<T>(list: &[T]) -> Option<(&T, &[T])>
+    ensures { MatchOption result (list.now ≡ []) (λ p. list.now ≡ p.0.now ∷ p.1.now) }
+{
+    list.split_first()
+}

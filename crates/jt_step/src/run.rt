@@ -1,0 +1,105 @@
+//! A machine that goes on with the replies of its operations.
+
+ghost use Rattle.std.specs.Prelude.{◌≡◌, ◌≤◌, true, IfOk, length, map};
+ghost use Rattle.jt_program.specs.View.{body_plan};
+ghost use Rattle.jt_step.specs.State.{given};
+ghost use Rattle.jt_step.specs.Stack.{Runs, waits, taken, over_by, given_mode};
+
+use crate::machine::Machine;
+use crate::mode::Mode;
+use jt_base::{Note, Op, OutOfMemory, Reply, Value};
+use jt_program::Body;
+use std::alloc::Global;
+
+impl<'p> Machine<'p> {
+    /// Goes on with the replies of the notes from the number `used` on, by at most so many turns. The
+    /// mode at the end, and how many notes were used up to it.
+    pub(crate) fn run_on(
+        &mut self,
+        alloc: Global,
+        functions: &'p [Body],
+        log: &[Note],
+        used: usize,
+        mode: Mode<'p>,
+        turns: u32,
+    ) -> Result<(Mode<'p>, usize), OutOfMemory>
+        requires { used ≤ length log.now }
+        ensures { IfOk result (λ r. Runs (map body_plan functions.now) log.now turns self.old used mode.entry self.new r.1 r.0) }
+    {
+        let mut mode = mode;
+        let mut used = used;
+        let mut taken = 0;
+        'moves: loop {
+            mode = self.settle(alloc, functions, mode)?;
+            if self.begins(functions, &mode) {
+                if taken == turns {
+                    return Ok((mode, used));
+                }
+                taken += 1;
+                mode = self.begin(alloc, functions, mode)?;
+            } else {
+                if used == log.len() || !waits(&mode) {
+                    return Ok((mode, used));
+                }
+                mode = answer(mode, &log[used].reply);
+                used += 1;
+            }
+        }
+    }
+}
+
+/// Whether an operation waits for its reply.
+fn waits(mode: &Mode) -> bool
+    ensures { result ≡ waits mode.now }
+{
+    match mode {
+        Mode::Begins(_) => true,
+        Mode::Waits(_) => true,
+        Mode::Ending(_) => true,
+        Mode::Failing(_) => true,
+        _ => false,
+    }
+}
+
+/// Gives a reply to the operation that waits.
+fn answer<'p>(mode: Mode<'p>, reply: &Reply) -> Mode<'p>
+    requires { waits mode ≡ true }
+    ensures { result ≡ taken mode.entry reply.now }
+{
+    match mode {
+        Mode::Begins(e) => match reply {
+            Reply::Ok => Mode::Eval(e),
+            _ => Mode::Unfit,
+        },
+        Mode::Waits(op) => given(op.get(), reply),
+        Mode::Ending(_v) => over(reply),
+        Mode::Failing(_fault) => over(reply),
+        _ => unreachable!(),
+    }
+}
+
+/// What an operation gives by its reply.
+fn given<'p>(op: &Op, reply: &Reply) -> Mode<'p>
+    ensures { result ≡ given_mode (given op.now reply.now) }
+{
+    match reply {
+        Reply::Ok => match op {
+            Op::Begin => Mode::Gave(Value::Nothing),
+            Op::End(_) => Mode::Gave(Value::Nothing),
+            Op::Fail(_) => Mode::Gave(Value::Nothing),
+            Op::Print(_) => Mode::Gave(Value::Nothing),
+            _ => Mode::Unfit,
+        },
+        _ => Mode::Unfit,
+    }
+}
+
+/// The end of the task.
+fn over<'p>(reply: &Reply) -> Mode<'p>
+    ensures { result ≡ over_by reply.now }
+{
+    match reply {
+        Reply::Ok => Mode::Over,
+        _ => Mode::Unfit,
+    }
+}

@@ -1,0 +1,166 @@
+//! Moves up to the next turn, and the turns themselves.
+
+ghost use Rattle.std.specs.Prelude.{◌≡◌, ◌<◌, List, true, false, IfOk, map, slice_get};
+ghost use Rattle.jt_program.specs.Plan.{BodyPlan};
+ghost use Rattle.jt_program.specs.View.{body_plan};
+ghost use Rattle.jt_step.specs.Stack.{Follows, Turns, Settles, rests, begins, refusal};
+
+use crate::frame::{Frame, Loop};
+use crate::machine::Machine;
+use crate::mode::Mode;
+use crate::variables::{assign, renew, variables_of};
+use jt_base::{Fault, OutOfMemory, Value};
+use jt_program::Body;
+use sqlite_items::at;
+use std::alloc::Global;
+use std::mem::replace;
+
+/// The most calls that may be open.
+const MOST_CALLS: u32 = 10000;
+
+impl<'p> Machine<'p> {
+    /// Whether nothing moves but by a reply or by a turn.
+    fn rests(&self, functions: &[Body], mode: &Mode<'p>) -> bool
+        ensures { result ≡ rests (map body_plan functions.now) self.now mode.now }
+    {
+        match mode {
+            Mode::Begins(_) => true,
+            Mode::Waits(_) => true,
+            Mode::Ending(_) => true,
+            Mode::Failing(_) => true,
+            Mode::Over => true,
+            Mode::Unfit => true,
+            _ => self.begins(functions, mode),
+        }
+    }
+
+    /// Whether a turn begins next.
+    pub(crate) fn begins(&self, functions: &[Body], mode: &Mode<'p>) -> bool
+        ensures { result ≡ begins (map body_plan functions.now) self.now mode.now }
+    {
+        match mode {
+            Mode::Enter(f, _) => match at(functions, *f) {
+                None => false,
+                Some(_) => self.turns > 0 && self.open_calls < MOST_CALLS,
+            },
+            Mode::Again(_) => self.turns > 0,
+            _ => false,
+        }
+    }
+
+    /// Why a call of this function can't begin.
+    fn refusal(&self, functions: &[Body], f: usize) -> Fault
+        ensures { result ≡ refusal (slice_get (map body_plan functions.now) f) self.now.turns }
+    {
+        match at(functions, f) {
+            None => Fault::Method,
+            Some(_) => {
+                if self.turns == 0 {
+                    Fault::TurnLimit
+                } else {
+                    Fault::StackLimit
+                }
+            }
+        }
+    }
+
+    /// One move that begins no turn.
+    fn step(
+        &mut self,
+        alloc: Global,
+        functions: &'p [Body],
+        mode: Mode<'p>,
+    ) -> Result<Mode<'p>, OutOfMemory>
+        requires { rests (map body_plan functions.now) self.old mode ≡ false }
+        ensures { IfOk result (λ m. Follows (map body_plan functions.now) self.old mode.entry self.new m) }
+    {
+        match mode {
+            Mode::Eval(e) => {
+                let mode = self.eval(alloc, e)?;
+                Ok(mode)
+            }
+            Mode::Gave(v) => {
+                let mode = self.give(alloc, v)?;
+                Ok(mode)
+            }
+            Mode::Returned(v) => Ok(self.return_value(v)),
+            Mode::Broke => Ok(self.leave_loop()),
+            Mode::Continued => {
+                let mode = self.next_turn()?;
+                Ok(mode)
+            }
+            Mode::Faulted(fault) => Ok(self.fail(fault)),
+            Mode::Enter(f, _vs) => Ok(Mode::Faulted(self.refusal(functions, f))),
+            Mode::Again(_) => Ok(Mode::Faulted(Fault::TurnLimit)),
+            _ => unreachable!(),
+        }
+    }
+
+    /// Begins a turn.
+    pub(crate) fn begin(
+        &mut self,
+        alloc: Global,
+        functions: &'p [Body],
+        mode: Mode<'p>,
+    ) -> Result<Mode<'p>, OutOfMemory>
+        requires { begins (map body_plan functions.now) self.old mode ≡ true }
+        ensures { IfOk result (λ m. Turns (map body_plan functions.now) self.old mode.entry self.new m) }
+    {
+        match mode {
+            Mode::Enter(f, vs) => match at(functions, f) {
+                None => unreachable!(),
+                Some(body) => {
+                    let variables = variables_of(alloc, body.variables, vs.as_slice())?;
+                    let caller = replace(&mut self.variables, variables);
+                    self.frames.push(Frame::Call(caller, self.open_calls))?;
+                    self.open_calls += 1;
+                    self.turns -= 1;
+                    Ok(Mode::Eval(&body.code))
+                }
+            },
+            Mode::Again(turns) => {
+                let mode = self.again(turns)?;
+                Ok(mode)
+            }
+            _ => unreachable!(),
+        }
+    }
+
+    /// Begins a turn of a loop.
+    fn again(&mut self, turns: Loop<'p>) -> Result<Mode<'p>, OutOfMemory>
+        requires { 0 < self.old.turns }
+        ensures { IfOk result (λ m. (functions : List BodyPlan) → Turns functions self.old (Mode.Again turns.entry) self.new m) }
+    {
+        match turns {
+            Loop::While(first, count, _condition, body) => {
+                renew(&mut self.variables, first, count)?;
+                self.frames.push(Frame::Loop(turns))?;
+                self.turns -= 1;
+                Ok(Mode::Eval(body))
+            }
+            Loop::Range(first, count, body, i, _last) => {
+                renew(&mut self.variables, first, count)?;
+                assign(&mut self.variables, first, Value::Int(i));
+                self.frames.push(Frame::Loop(turns))?;
+                self.turns -= 1;
+                Ok(Mode::Eval(body))
+            }
+        }
+    }
+
+    /// Moves up to the next turn or operation.
+    pub(crate) fn settle(
+        &mut self,
+        alloc: Global,
+        functions: &'p [Body],
+        mode: Mode<'p>,
+    ) -> Result<Mode<'p>, OutOfMemory>
+        ensures { IfOk result (λ m. Settles (map body_plan functions.now) self.old mode.entry self.new m) }
+    {
+        let mut mode = mode;
+        'moves: while !self.rests(functions, &mode) {
+            mode = self.step(alloc, functions, mode)?;
+        }
+        Ok(mode)
+    }
+}

@@ -1,0 +1,145 @@
+//! What operators and functions of the language make of values.
+
+ghost use Rattle.std.specs.Prelude.{◌≡◌, ◌∷◌, [], Ok, Err, IfOk};
+ghost use Rattle.jt_base.specs.declared.value.Value.TheVariants.{Int, Flag};
+ghost use Rattle.jt_step.specs.Values as spec;
+
+mod comparisons;
+
+pub(crate) use comparisons::compare;
+use jt_base::{Fault, OutOfMemory, Text, Value};
+use jt_num::NumFault;
+use jt_program::{BinaryOperator, BuiltIn, Literal};
+use jt_syntax::UnaryOperator;
+use std::alloc::Global;
+
+/// The value of a literal.
+pub(crate) fn literal_value(literal: Literal) -> Value
+    ensures { result ≡ spec.value_of literal }
+{
+    match literal {
+        Literal::Int(number) => Value::Int(number),
+        Literal::Flag(flag) => Value::Flag(flag),
+        Literal::Nothing => Value::Nothing,
+    }
+}
+
+/// What an operator makes of its two operands, or why it makes nothing: `Divide` and `Domain` as in
+/// arithmetic, `Method` where it doesn't take them.
+pub(crate) fn operate(operator: BinaryOperator, left: &Value, right: &Value) -> Result<Value, Fault>
+    ensures { result ≡ spec.operated operator left.now right.now }
+{
+    match left {
+        Value::Int(a) => match right {
+            Value::Int(b) => operate_on_numbers(operator, *a, *b),
+            _ => Err(Fault::Method),
+        },
+        Value::Flag(a) => match right {
+            Value::Flag(b) => operate_on_flags(operator, *a, *b),
+            _ => Err(Fault::Method),
+        },
+        _ => Err(Fault::Method),
+    }
+}
+
+fn operate_on_numbers(operator: BinaryOperator, a: i64, b: i64) -> Result<Value, Fault>
+    ensures { result ≡ spec.operated operator (Int a) (Int b) }
+{
+    match operator {
+        BinaryOperator::Add => Ok(Value::Int(jt_num::add(a, b))),
+        BinaryOperator::Subtract => Ok(Value::Int(jt_num::sub(a, b))),
+        BinaryOperator::Multiply => Ok(Value::Int(jt_num::mul(a, b))),
+        BinaryOperator::Divide => number_or(jt_num::div(a, b)),
+        BinaryOperator::Remainder => number_or(jt_num::rem(a, b)),
+        BinaryOperator::Power => number_or(jt_num::pow(a, b)),
+        BinaryOperator::And => Ok(Value::Int(jt_num::and(a, b))),
+        BinaryOperator::Or => Ok(Value::Int(jt_num::or(a, b))),
+        BinaryOperator::Xor => Ok(Value::Int(jt_num::xor(a, b))),
+        BinaryOperator::ShiftLeft => Ok(Value::Int(jt_num::shl(a, b))),
+        BinaryOperator::ShiftRight => Ok(Value::Int(jt_num::shr(a, b))),
+        BinaryOperator::ShiftRightZero => Ok(Value::Int(jt_num::ushr(a, b))),
+    }
+}
+
+fn operate_on_flags(operator: BinaryOperator, a: bool, b: bool) -> Result<Value, Fault>
+    ensures { result ≡ spec.operated operator (Flag a) (Flag b) }
+{
+    match operator {
+        BinaryOperator::And => Ok(Value::Flag(a && b)),
+        BinaryOperator::Or => Ok(Value::Flag(a || b)),
+        BinaryOperator::Xor => Ok(Value::Flag(a != b)),
+        _ => Err(Fault::Method),
+    }
+}
+
+/// What an operator makes of the operand behind it; `Method` where it doesn't take it.
+pub(crate) fn apply_unary(operator: UnaryOperator, value: &Value) -> Result<Value, Fault>
+    ensures { result ≡ spec.unary_of operator value.now }
+{
+    match value {
+        Value::Int(a) => match operator {
+            UnaryOperator::Minus => Ok(Value::Int(jt_num::sub(0, *a))),
+            UnaryOperator::Plus => Ok(Value::Int(*a)),
+            UnaryOperator::Complement => Ok(Value::Int(jt_num::complement(*a))),
+            UnaryOperator::Not => Err(Fault::Method),
+        },
+        Value::Flag(flag) => match operator {
+            UnaryOperator::Not | UnaryOperator::Complement => Ok(Value::Flag(!*flag)),
+            UnaryOperator::Minus | UnaryOperator::Plus => Err(Fault::Method),
+        },
+        _ => Err(Fault::Method),
+    }
+}
+
+/// What a function of the language answers, or why it answers nothing: `Divide` as in arithmetic,
+/// `Method` where it doesn't take these arguments.
+pub(crate) fn apply(function: BuiltIn, arguments: &[Value]) -> Result<Value, Fault>
+    ensures { result ≡ spec.applied function arguments.now }
+{
+    match arguments {
+        [left, right] => apply_to_two(function, left, right),
+        _ => Err(Fault::Method),
+    }
+}
+
+fn apply_to_two(function: BuiltIn, left: &Value, right: &Value) -> Result<Value, Fault>
+    ensures { result ≡ spec.applied function (left.now ∷ right.now ∷ []) }
+{
+    match left {
+        Value::Int(a) => match right {
+            Value::Int(b) => divide(function, *a, *b),
+            _ => Err(Fault::Method),
+        },
+        _ => Err(Fault::Method),
+    }
+}
+
+fn divide(function: BuiltIn, a: i64, b: i64) -> Result<Value, Fault>
+    ensures { result ≡ spec.applied function (Int a ∷ Int b ∷ []) }
+{
+    match function {
+        BuiltIn::Div => number_or(jt_num::div(a, b)),
+        BuiltIn::Rem => number_or(jt_num::rem(a, b)),
+        BuiltIn::Mod => number_or(jt_num::mod_(a, b)),
+    }
+}
+
+fn number_or(number: Result<i64, NumFault>) -> Result<Value, Fault>
+    ensures { result ≡ spec.number_or number }
+{
+    match number {
+        Ok(number) => Ok(Value::Int(number)),
+        Err(NumFault::Divide) => Err(Fault::Divide),
+        Err(NumFault::Domain) => Err(Fault::Domain),
+    }
+}
+
+/// The fault of a call of `error` with these bytes: `Method` where they are no UTF-8.
+pub(crate) fn error_fault(alloc: Global, bytes: &[u8]) -> Result<Fault, OutOfMemory>
+    ensures { IfOk result (λ f. f ≡ spec.error_of (spec.text_of bytes.now)) }
+{
+    match str::from_utf8(bytes) {
+        Ok(text) => Ok(Fault::Error(Text::from_str(alloc, text)?)),
+        Err(_) => Ok(Fault::Method),
+    }
+}

@@ -1,0 +1,79 @@
+//! Comparisons of two values.
+
+ghost use Rattle.std.specs.Prelude.{◌≡◌, int_lt, int_le};
+ghost use Rattle.jt_step.specs.Values as spec;
+
+use jt_base::Value;
+use jt_syntax::ComparisonOperator;
+
+/// Whether a comparison holds between two values; nothing where they can't be compared so.
+pub(crate) fn compare(operator: ComparisonOperator, left: &Value, right: &Value) -> Option<bool>
+    ensures { result ≡ spec.compared_by operator left.now right.now }
+{
+    match operator {
+        ComparisonOperator::Equal => equal(left, right),
+        ComparisonOperator::NotEqual => opposite(equal(left, right)),
+        ComparisonOperator::Less => less(left, right),
+        ComparisonOperator::LessEqual => less_equal(left, right),
+        ComparisonOperator::Greater => less(right, left),
+        ComparisonOperator::GreaterEqual => less_equal(right, left),
+    }
+}
+
+// Whether two values are equal: whole numbers, truth values, or `nothing` and any value.
+fn equal(left: &Value, right: &Value) -> Option<bool>
+    ensures { result ≡ spec.equal left.now right.now }
+{
+    match left {
+        Value::Int(a) => match right {
+            Value::Int(b) => Some(*a == *b),
+            Value::Nothing => Some(false),
+            _ => None,
+        },
+        Value::Flag(a) => match right {
+            Value::Flag(b) => Some(*a == *b),
+            Value::Nothing => Some(false),
+            _ => None,
+        },
+        Value::Nothing => Some(matches!(right, Value::Nothing)),
+        _ => match right {
+            Value::Nothing => Some(false),
+            _ => None,
+        },
+    }
+}
+
+fn opposite(answer: Option<bool>) -> Option<bool>
+    ensures { result ≡ spec.opposite answer }
+{
+    match answer {
+        Some(flag) => Some(!flag),
+        None => None,
+    }
+}
+
+// Whether one number is less than the other.
+fn less(left: &Value, right: &Value) -> Option<bool>
+    ensures { result ≡ spec.ordered (λ a b. int_lt a b) left.now right.now }
+{
+    match left {
+        Value::Int(a) => match right {
+            Value::Int(b) => Some(*a < *b),
+            _ => None,
+        },
+        _ => None,
+    }
+}
+
+// Whether one number is at most the other.
+fn less_equal(left: &Value, right: &Value) -> Option<bool>
+    ensures { result ≡ spec.ordered (λ a b. int_le a b) left.now right.now }
+{
+    match left {
+        Value::Int(a) => match right {
+            Value::Int(b) => Some(*a <= *b),
+            _ => None,
+        },
+        _ => None,
+    }
+}
