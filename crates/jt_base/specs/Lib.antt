@@ -1,3 +1,5 @@
+pub mod Coming
+pub mod Jobs
 pub mod MemorySink
 pub mod MemorySource
 pub mod Names

@@ -4,6 +4,7 @@
 
 mod entry;
 mod gate;
+mod job;
 mod memory;
 mod memory_sink;
 mod memory_source;
@@ -22,6 +23,7 @@ mod value;
 
 pub use entry::{Ask, Entry, Note};
 pub use gate::{Gate, OpenGate};
+pub use job::Job;
 pub use memory::OutOfMemory;
 pub use memory_sink::MemorySink;
 pub use memory_source::MemorySource;
