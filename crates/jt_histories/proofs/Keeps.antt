@@ -3,13 +3,14 @@ use Rattle.std.proofs.Common.{◌≡◌, ℕ, List, [], ◌∷◌, ◌++◌, Opt
 use Rattle.std.proofs.lemmas.Bool.{false≢true}
 use Rattle.std.proofs.lemmas.List.{length-set}
 use Rattle.jt_base.specs.declared.entry.Entry.{Entry}
-use Rattle.jt_laws.specs.Coming.{Next, Needs, Spawns, Over, op_of}
+use Rattle.jt_base.specs.Coming.{Next, Needs, Spawns, Over, op_of}
 use Rattle.jt_laws.specs.Entries.{object, shard, spawns, ends, of_task}
 use Rattle.jt_laws.specs.Seats.{seat_of, seat_after, first_seat}
 use Rattle.jt_laws.specs.Histories.{World}
 use Rattle.jt_histories.specs.Kept.{Laws, made_path}
 use Rattle.jt_histories.specs.Merges.{insert_entry}
-use Rattle.jt_histories.specs.Jobs.{note_reply, Held, Live, Has, OnePath, noted_job, Belongs, Makes, Holds, coming, left_after}
+use Rattle.jt_base.specs.Jobs.{note_reply, Held}
+use Rattle.jt_histories.specs.Jobs.{Live, Has, OnePath, noted_job, Belongs, Makes, Holds, coming, left_after}
 use Rattle.jt_histories.proofs.Lists.{or_else, by_test}
 use Rattle.jt_histories.proofs.Orders.{shard_small}
 use Rattle.jt_histories.proofs.ObjectLaws.{seat_push, spawn_no_end, spawned_one}

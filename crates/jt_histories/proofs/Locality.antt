@@ -5,7 +5,7 @@ use Rattle.std.proofs.lemmas.Bool.{eq-eqb, eqb-true}
 use Rattle.std.proofs.lemmas.List.{append-nil}
 use Rattle.jt_base.specs.declared.operation.Reply.{Reply}
 use Rattle.jt_base.specs.declared.entry.Entry.{Entry}
-use Rattle.jt_laws.specs.Coming.{Next, op_of}
+use Rattle.jt_base.specs.Coming.{Next, op_of}
 use Rattle.jt_laws.specs.Entries.{Object, same_path, same_object, object, shard, shard_of_object, spawns, of_task, of_object, of_shard, below, top, reply_of, In, Rising}
 use Rattle.jt_laws.specs.Seats.{seat_of, may_work}
 use Rattle.jt_laws.specs.Objects.{reply_after}

@@ -6,15 +6,16 @@ use Rattle.std.proofs.lemmas.List.{reverse-reverse, reverse-append, append-nil, 
 use Rattle.std.proofs.lemmas.List.Elements.{filter-append}
 use Rattle.jt_base.specs.declared.operation.Reply.{Reply}
 use Rattle.jt_base.specs.declared.entry.Entry.{Entry}
-use Rattle.jt_laws.specs.Coming.{Next, Spawns, op_of}
+use Rattle.jt_base.specs.Coming.{Next, Spawns, op_of}
 use Rattle.jt_laws.specs.Entries.{Task, same_path, same_object, object, shard, spawns, ends, of_task, of_object, of_shard, top, reply_of, In, Each, Rising, Ordered}
 use Rattle.jt_laws.specs.Seats.{seat_of, may_work}
 use Rattle.jt_laws.specs.Objects.{reply_after}
-use Rattle.jt_laws.specs.Histories.{World, Birth, birth_from, born_in, born_of, birth_at, birth_of, Fits, Stamps, IsLegalHistory}
+use Rattle.jt_laws.specs.Histories.{World, Birth, birth_from, born_in, born_of, birth_at, birth_of, stamp_after, Fits, Stamps, IsLegalHistory}
 use Rattle.jt_laws.proofs.Paths.{same_itself, same_equal}
 use Rattle.jt_histories.specs.Kept.{Kept, Same, Laws}
 use Rattle.jt_histories.specs.Merges.{IsMerge, insert_entry}
-use Rattle.jt_histories.specs.Jobs.{note_of, note_reply, last_note_from, last_note, last_entry_from, last_entry, Held, Live, Belongs, Makes, noted_job}
+use Rattle.jt_base.specs.Jobs.{note_reply, last_note_from, last_note, Held}
+use Rattle.jt_histories.specs.Jobs.{note_of, last_entry_from, last_entry, Live, Belongs, Makes, noted_job}
 use Rattle.jt_histories.proofs.Lists.{or_else, by_test, same_object_refl, in_filter, filter_none, filter_push_yes, filter_push_no, in_left, in_right}
 use Rattle.jt_histories.proofs.Orders.{key_later, same_key, insert_other, insert_last, insert_ordered, in_insert}
 use Rattle.jt_histories.proofs.ObjectLaws.{spawn_once, spawn_object, spawn_no_end}
@@ -78,25 +79,32 @@ pub record Made (S : Type 0) (w : World S) (logs : List (List Entry)) (h : List 
   pub no_more : (q : List ℕ) → Live (insert_entry e h) q → Live h q ⊎ (spawns e.op q ≡ true)
 
 module _ (S : Type 0) (w : World S) where
-  fits_made : (h : List Entry) (j : Held S) (e : Entry) (log : List Entry) → Belongs S w h j → Makes S w log j e → of_shard (shard e) h ≡ log → Fits S w h h e
-  fits_made h j e log b m s = record {
+  -- an entry that is next for a job fits
+  pub fits_next : (h : List Entry) (j : Held S) (e : Entry) (log : List Entry) → Belongs S w h j → of_shard (shard e) h ≡ log → e.task ≡ j.path
+      → op_of (w.next j.path j.start (map note_reply j.log)) ≡ Some e.op → reply_after (of_object (object e) log) e.task e.op ≡ Some e.reply → may_work w.sizes j.seat e.worker ≡ true → Fits S w h h e
+  fits_next h j e log b s task comes allowed works = record {
     birth = b.birth;
-    born = subst (λ p. birth_of S w h p ≡ Some b.birth) (sym m.task) b.born;
-    comes = ap (λ p. op_of (w.next p b.birth.start (map reply_of (of_task p h)))) m.task
+    born = subst (λ p. birth_of S w h p ≡ Some b.birth) (sym task) b.born;
+    comes = ap (λ p. op_of (w.next p b.birth.start (map reply_of (of_task p h)))) task
         ∙ ap (λ t. op_of (w.next j.path t (map reply_of (of_task j.path h)))) (sym b.started)
         ∙ ap (λ l. op_of (w.next j.path j.start l)) (sym (ap (map note_reply) b.noted ∙ map_notes (of_task j.path h)))
-        ∙ m.comes;
-    allowed = ap (λ l. reply_after l e.task e.op) (sym (object_in_shard (object e) h) ∙ ap (of_object (object e)) s) ∙ m.allowed;
-    works = ap (λ p. may_work w.sizes (seat_of w.sizes b.birth.maker (of_task p h)) e.worker) m.task ∙ ap (λ t. may_work w.sizes t e.worker) (sym b.seated) ∙ m.works;
+        ∙ comes;
+    allowed = ap (λ l. reply_after l e.task e.op) (sym (object_in_shard (object e) h) ∙ ap (of_object (object e)) s) ∙ allowed;
+    works = ap (λ p. may_work w.sizes (seat_of w.sizes b.birth.maker (of_task p h)) e.worker) task ∙ ap (λ t. may_work w.sizes t e.worker) (sym b.seated) ∙ works;
   }
 
+  -- the stamp of an entry by the last stamps of its job and of its shard's log
+  pub stamp_next : (h : List Entry) (j : Held S) (e : Entry) (log : List Entry) → Kept S w h → Belongs S w h j → of_shard (shard e) h ≡ log → e.task ≡ j.path
+      → max (last_note j.log) (last_entry log) + 1 ≡ stamp_after h e.task (shard e)
+  stamp_next h j e log k b s task =
+      ap (λ n. max n (last_entry log) + 1) (ap last_note b.noted ∙ notes_last_from 0 (of_task j.path h) ∙ last_top (of_task j.path h) (k.tasks_rise j.path) ∙ ap (λ p. top (of_task p h)) (sym task))
+      ∙ ap (λ n. max (top (of_task e.task h)) n + 1) (ap last_entry (sym s) ∙ last_top (of_shard (shard e) h) (k.shards_rise (shard e)))
+
+  fits_made : (h : List Entry) (j : Held S) (e : Entry) (log : List Entry) → Belongs S w h j → Makes S w log j e → of_shard (shard e) h ≡ log → Fits S w h h e
+  fits_made h j e log b m s = fits_next h j e log b s m.task m.comes m.allowed m.works
+
   stamps_made : (h : List Entry) (j : Held S) (e : Entry) (log : List Entry) → Kept S w h → Belongs S w h j → Makes S w log j e → of_shard (shard e) h ≡ log → Stamps S w h e
-  stamps_made h j e log k b m s = record {
-    stamped = m.stamped
-        ∙ ap (λ n. max n (last_entry log) + 1) (ap last_note b.noted ∙ notes_last_from 0 (of_task j.path h) ∙ last_top (of_task j.path h) (k.tasks_rise j.path) ∙ ap (λ p. top (of_task p h)) (sym m.task))
-        ∙ ap (λ n. max (top (of_task e.task h)) n + 1) (ap last_entry (sym s) ∙ last_top (of_shard (shard e) h) (k.shards_rise (shard e)));
-    within = m.within;
-  }
+  stamps_made h j e log k b m s = record { stamped = m.stamped ∙ stamp_next h j e log k b s m.task; within = m.within }
 
   same_more : (h : List Entry) (e : Entry) → Ordered h → Stamps S w h e → Same (h ++ e ∷ []) (insert_entry e h)
   same_more h e o f = record {

@@ -4,7 +4,7 @@ use Rattle.std.proofs.lemmas.Bool.{false≢true}
 use Rattle.std.proofs.lemmas.List.{map-append}
 use Rattle.jt_base.specs.declared.operation.Op.{Op}
 use Rattle.jt_base.specs.declared.entry.Entry.{Entry}
-use Rattle.jt_laws.specs.Coming.{op_of}
+use Rattle.jt_base.specs.Coming.{op_of}
 use Rattle.jt_laws.specs.Entries.{object_of, shard, shard_of_object, same_path, ends, of_task, of_object, below, reply_of, In, Rising, key, Ordered}
 use Rattle.jt_laws.specs.Objects.{reply_after}
 use Rattle.jt_laws.specs.Histories.{World, Birth, birth_of, LegalFrom, StampedFrom, IsLegalHistory}
@@ -12,13 +12,14 @@ use Rattle.jt_laws.specs.Lines.{cut_at_main_end, is_main_end}
 use Rattle.jt_laws.proofs.Paths.{same_itself, same_equal}
 use Rattle.jt_histories.specs.Kept.{Kept}
 use Rattle.jt_histories.specs.Merges.{IsMerge, AreLogs}
-use Rattle.jt_histories.specs.Jobs.{note_reply, Held, Holds, coming}
-use Rattle.jt_histories.specs.Rest.{AtRest, EndsIt, AllStuck}
+use Rattle.jt_base.specs.Jobs.{note_reply, Held}
+use Rattle.jt_histories.specs.Jobs.{Has, Holds, coming}
+use Rattle.jt_histories.specs.Rest.{AtRest, EndsIt, AllStuck, AtLimit, MeetsLimit}
 use Rattle.jt_histories.proofs.Lists.{or_else, by_test, in_filter, filter_comm, in_left, each_in, each_from}
 use Rattle.jt_histories.proofs.Locality.{shard_in, object_from_shard}
 use Rattle.jt_histories.proofs.Stamped.{history_kept, list_below}
 use Rattle.jt_histories.proofs.InOrder.{ordered_one}
-use Rattle.jt_histories.proofs.Placed.{map_notes}
+use Rattle.jt_histories.proofs.Placed.{map_notes, fits_next, stamp_next}
 
 ordered_front : (front back : List Entry) → Ordered (front ++ back) → Ordered front
 ordered_front [] back o = tt
@@ -125,3 +126,17 @@ module _ (S : Type 0) (w : World S) where
   pub merge_at_rest : EndsIt S w → (logs : List (List Entry)) (jobs : List (Held S)) (h : List Entry) → Holds S w logs jobs → AllStuck S w logs jobs → IsMerge logs h → AtRest S w h
   merge_at_rest over logs jobs h k stuck m =
       subst (AtRest S w) (ordered_one k.history h k.merged.ordered m.ordered (λ n. k.merged.logged n ∙ sym (m.logged n))) (at_rest over logs jobs k stuck)
+
+  -- the limit that one job meets is met by the history
+  limit_met : (logs : List (List Entry)) (jobs : List (Held S)) (j : Held S) (e : Entry) → (k : Holds S w logs jobs) → Has S j jobs → AtLimit S w (get_or logs (shard e) []) j e → MeetsLimit S w k.history
+  limit_met logs jobs j e k i a =
+      let b = k.belong j i in
+      let s = k.merged.logged (shard e) in (
+        e,
+        fits_next S w k.history j e (get_or logs (shard e) []) b s a.task a.comes a.allowed a.works,
+        subst (λ n. w.events < n) (stamp_next S w k.history j e (get_or logs (shard e) []) (history_kept S w k.history k.legal) b s a.task) a.beyond,
+      )
+
+  pub merge_meets : (logs : List (List Entry)) (jobs : List (Held S)) (h : List Entry) (j : Held S) (e : Entry) → Holds S w logs jobs → Has S j jobs → AtLimit S w (get_or logs (shard e) []) j e → IsMerge logs h → MeetsLimit S w h
+  merge_meets logs jobs h j e k i a m =
+      subst (MeetsLimit S w) (ordered_one k.history h k.merged.ordered m.ordered (λ n. k.merged.logged n ∙ sym (m.logged n))) (limit_met logs jobs j e k i a)

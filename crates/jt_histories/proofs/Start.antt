@@ -3,7 +3,8 @@ use Rattle.std.proofs.Common.{◌≡◌, ℕ, zero, suc, List, [], ◌∷◌, No
 use Rattle.std.proofs.lemmas.List.{length-replicate}
 use Rattle.jt_base.specs.declared.entry.Entry.{Entry}
 use Rattle.jt_laws.specs.Histories.{World}
-use Rattle.jt_histories.specs.Jobs.{Held, Belongs, Holds, main_job}
+use Rattle.jt_base.specs.Jobs.{Held}
+use Rattle.jt_histories.specs.Jobs.{Belongs, Holds, main_job}
 use Rattle.jt_histories.proofs.Lists.{or_else}
 
 none_at : (n k : ℕ) → (e : List Entry) → e ≡ [] → [] ≡ get_or (replicate n e) k []

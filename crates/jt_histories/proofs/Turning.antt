@@ -12,7 +12,8 @@ use Rattle.jt_laws.specs.Entries.{same_path, shard}
 use Rattle.jt_laws.specs.Histories.{World}
 use Rattle.jt_laws.proofs.Paths.{same_itself, same_equal}
 use Rattle.jt_histories.specs.Kept.{Laws}
-use Rattle.jt_histories.specs.Jobs.{Held, Has, OnePath, Makes, Holds, left_after, coming}
+use Rattle.jt_base.specs.Jobs.{Held}
+use Rattle.jt_histories.specs.Jobs.{Has, OnePath, Makes, Holds, left_after, coming}
 use Rattle.jt_histories.specs.Turns.{Turns}
 use Rattle.jt_histories.proofs.Lists.{or_else, by_test}
 use Rattle.jt_histories.proofs.Keeps.{entry_keeps, holds_moved}

@@ -1,12 +1,12 @@
 -- The shard logs with the jobs of a run, and what one job's entry makes of them.
 use Rattle.std.specs.Prelude.{◌≡◌, ℕ, ◌+◌, ◌≤◌, List, [], ◌∷◌, ◌++◌, Option, Some, None, true, false, max, map, length, ◌⊎◌, cond}
 use Rattle.jt_base.specs.Names.{shards}
-use Rattle.jt_base.specs.declared.operation.Reply.{Reply}
 use Rattle.jt_base.specs.declared.entry.Entry.{Entry}
 use Rattle.jt_base.specs.declared.entry.Note.{Note}
-use Rattle.jt_laws.specs.Coming.{Next, Needs, Spawns, Over, op_of}
+use Rattle.jt_base.specs.Coming.{Next, Needs, Spawns, Over, op_of}
 use Rattle.jt_laws.specs.Entries.{object, spawns, ends, of_task, of_object, In}
-use Rattle.jt_laws.specs.Seats.{Seat, seat_of, seat_after, may_work}
+use Rattle.jt_base.specs.Jobs.{Seat, Held, note_reply, last_note}
+use Rattle.jt_laws.specs.Seats.{seat_of, seat_after, may_work}
 use Rattle.jt_laws.specs.Objects.{reply_after}
 use Rattle.jt_laws.specs.Histories.{World, Birth, birth_of, IsLegalHistory}
 use Rattle.jt_histories.specs.Kept.{made_path}
@@ -16,30 +16,13 @@ use Rattle.jt_histories.specs.Merges.{IsMerge}
 abbrev pub note_of : Entry → Note
 note_of e = record { stamp = e.stamp; reply = e.reply }
 
-abbrev pub note_reply : Note → Reply
-note_reply n = n.reply
-
 -- the stamp of the last one, or 0
-abbrev pub last_note_from : ℕ → List Note → ℕ
-last_note_from stamp [] = stamp
-last_note_from stamp (n ∷ ns) = last_note_from n.stamp ns
-
-abbrev pub last_note : List Note → ℕ
-last_note notes = last_note_from 0 notes
-
 abbrev pub last_entry_from : ℕ → List Entry → ℕ
 last_entry_from stamp [] = stamp
 last_entry_from stamp (e ∷ es) = last_entry_from e.stamp es
 
 abbrev pub last_entry : List Entry → ℕ
 last_entry log = last_entry_from 0 log
-
--- what is held of a task: its path, its start, its seat, and the notes of its entries
-pub record Held (S : Type 0) : Type 0 where
-  pub path : List ℕ
-  pub start : S
-  pub seat : Seat
-  pub log : List Note
 
 -- main and the tasks that an entry made, without those that ended
 pub record Live (h : List Entry) (path : List ℕ) : Type 0 where

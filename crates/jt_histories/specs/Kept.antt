@@ -4,7 +4,7 @@ use Rattle.jt_base.specs.declared.operation.Op.{Op}
 use Rattle.jt_base.specs.declared.operation.Op.TheVariants.{Begin, Spawn}
 use Rattle.jt_base.specs.declared.operation.Reply.{Reply}
 use Rattle.jt_base.specs.declared.entry.Entry.{Entry}
-use Rattle.jt_laws.specs.Coming.{Needs, Spawns, op_of}
+use Rattle.jt_base.specs.Coming.{Needs, Spawns, op_of}
 use Rattle.jt_laws.specs.Entries.{spawns, of_task, of_shard, below, In, Rising}
 use Rattle.jt_laws.specs.Histories.{World, Fits, Stamps}
 

@@ -1,13 +1,15 @@
--- Rest: no task of a history can move.
-use Rattle.std.specs.Prelude.{◌≡◌, ℕ, List, [], ◌∷◌, ◌++◌, Some, None, true, map, get_or, ◌⊎◌}
+-- Where a run stands still: no task of a history can move, or the limit on stamps is met.
+use Rattle.std.specs.Prelude.{◌≡◌, ℕ, ◌+◌, ◌<◌, List, [], ◌∷◌, ◌++◌, Some, None, true, max, map, get_or, ◌⊎◌}
 use Rattle.jt_base.specs.declared.operation.Op.{Op}
 use Rattle.jt_base.specs.declared.operation.Reply.{Reply}
 use Rattle.jt_base.specs.declared.entry.Entry.{Entry}
-use Rattle.jt_laws.specs.Coming.{op_of}
-use Rattle.jt_laws.specs.Entries.{object_of, shard_of_object, spawns, ends, of_task, of_object, reply_of, In}
+use Rattle.jt_base.specs.Coming.{op_of}
+use Rattle.jt_laws.specs.Entries.{object, object_of, shard, shard_of_object, spawns, ends, of_task, of_object, reply_of, In}
 use Rattle.jt_laws.specs.Objects.{reply_after}
-use Rattle.jt_laws.specs.Histories.{World, Birth, birth_of}
-use Rattle.jt_histories.specs.Jobs.{Held, Has, coming}
+use Rattle.jt_laws.specs.Seats.{may_work}
+use Rattle.jt_laws.specs.Histories.{World, Birth, birth_of, Fits, stamp_after}
+use Rattle.jt_base.specs.Jobs.{Held, last_note}
+use Rattle.jt_histories.specs.Jobs.{Has, coming, last_entry}
 
 module _ (S : Type 0) (world : World S) where
   -- for main and each task that an entry made: what comes next isn't allowed
@@ -30,3 +32,15 @@ module _ (S : Type 0) (world : World S) where
 
   abbrev pub AllStuck : List (List Entry) → List (Held S) → Type 0
   AllStuck logs jobs = (j : Held S) → Has S j jobs → IsStuck logs j
+
+  -- a further entry fits, but its stamp would be greater than the limit
+  abbrev pub MeetsLimit : List Entry → Type 0
+  MeetsLimit h = (e : Entry) × Fits S world h h e × (world.events < stamp_after h e.task (shard e))
+
+  -- the same, said of a job and of one shard's log alone
+  pub record AtLimit (log : List Entry) (j : Held S) (e : Entry) : Type 0 where
+    pub task : e.task ≡ j.path
+    pub comes : op_of (coming S world j) ≡ Some e.op
+    pub allowed : reply_after (of_object (object e) log) e.task e.op ≡ Some e.reply
+    pub works : may_work world.sizes j.seat e.worker ≡ true
+    pub beyond : world.events < max (last_note j.log) (last_entry log) + 1

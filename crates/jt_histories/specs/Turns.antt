@@ -4,7 +4,8 @@ use Rattle.std.specs.List.Sorted.{IsPermutation}
 use Rattle.jt_base.specs.declared.entry.Entry.{Entry}
 use Rattle.jt_laws.specs.Entries.{shard}
 use Rattle.jt_laws.specs.Histories.{World}
-use Rattle.jt_histories.specs.Jobs.{Held, Makes, left_after, coming}
+use Rattle.jt_base.specs.Jobs.{Held}
+use Rattle.jt_histories.specs.Jobs.{Makes, left_after, coming}
 
 module _ (S : Type 0) (world : World S) where
   -- from the log of shard k and these jobs, by these further entries in turn, to those jobs

@@ -7,8 +7,9 @@ mod order;
 mod world;
 
 pub use cutting::cut_at_main_end;
-pub use merging::merge;
+pub use merging::{merge, shard_of};
 pub use order::{front_is_legal, legal_by_stamps, locality_law, merge_law};
 pub use world::{
-    entry_keeps, merge_is_legal, moved_keeps, shut_keeps, start_holds, stuck_is_rest, turns_grow,
+    entry_keeps, limit_is_met, merge_is_legal, moved_keeps, shut_keeps, start_holds, stuck_is_rest,
+    turns_grow,
 };

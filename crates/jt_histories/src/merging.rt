@@ -11,7 +11,7 @@ use std::alloc::Global;
 const SHARDS: u64 = 16;
 
 /// The shard of the object that an operation of this task asks: 0 to 15.
-fn shard_of(task: &Path, op: &Op) -> u32
+pub fn shard_of(task: &Path, op: &Op) -> u32
     ensures { result ≡ shard_of_object (object_of task.now op.now) }
 {
     match op {

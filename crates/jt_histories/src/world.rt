@@ -10,8 +10,9 @@ ghost use Rattle.jt_laws.specs.Histories.{World, IsLegalHistory};
 ghost use Rattle.jt_laws.specs.Lines.{cut_at_main_end};
 ghost use Rattle.jt_histories.specs.Kept.{Laws};
 ghost use Rattle.jt_histories.specs.Merges.{IsMerge, AreLogs};
-ghost use Rattle.jt_histories.specs.Jobs.{Held, Makes, Holds, main_job, left_after, coming};
-ghost use Rattle.jt_histories.specs.Rest.{AtRest, EndsIt, AllStuck};
+ghost use Rattle.jt_base.specs.Jobs.{Held};
+ghost use Rattle.jt_histories.specs.Jobs.{Has, Makes, Holds, main_job, left_after, coming};
+ghost use Rattle.jt_histories.specs.Rest.{AtRest, EndsIt, AllStuck, AtLimit, MeetsLimit};
 ghost use Rattle.jt_histories.specs.Turns.{Turns};
 
 /// Sixteen empty logs and main's job hold. `S` is the type of the tasks' starts.
@@ -52,4 +53,9 @@ pub fn merge_is_legal<S>()
 /// move.
 pub fn stuck_is_rest<S>()
     ensures { (world : World S) → EndsIt S world → (logs : List (List Entry)) (jobs : List (Held S)) (h : List Entry) → Holds S world logs jobs → AllStuck S world logs jobs → IsMerge logs h → AtRest S world h }
+{}
+
+/// A limit on stamps that the next entry of one job meets is met by the history.
+pub fn limit_is_met<S>()
+    ensures { (world : World S) (logs : List (List Entry)) (jobs : List (Held S)) (h : List Entry) (j : Held S) (e : Entry) → Holds S world logs jobs → Has S j jobs → AtLimit S world (get_or logs (shard e) []) j e → IsMerge logs h → MeetsLimit S world h }
 {}

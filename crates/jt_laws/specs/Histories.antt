@@ -3,7 +3,7 @@ use Rattle.std.specs.Prelude.{◌≡◌, ℕ, ◌+◌, ◌≤◌, List, [], ◌�
 use Rattle.jt_base.specs.declared.operation.Reply.{Reply}
 use Rattle.jt_base.specs.declared.run.Sizes.{Sizes}
 use Rattle.jt_base.specs.declared.entry.Entry.{Entry}
-use Rattle.jt_laws.specs.Coming.{Next, Needs, Spawns, Over, op_of}
+use Rattle.jt_base.specs.Coming.{Next, Needs, Spawns, Over, op_of}
 use Rattle.jt_laws.specs.Entries.{object, shard, spawns, of_task, of_object, of_shard, top, reply_of, Ordered}
 use Rattle.jt_laws.specs.Seats.{seat_of, may_work}
 use Rattle.jt_laws.specs.Objects.{reply_after}

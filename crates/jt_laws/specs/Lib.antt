@@ -1,7 +1,6 @@
 pub mod Atomics
 pub mod ChannelLaws
 pub mod Channels
-pub mod Coming
 pub mod Entries
 pub mod Events
 pub mod Histories

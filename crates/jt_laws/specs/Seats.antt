@@ -1,4 +1,4 @@
--- Seats: the pool of a task's workers, and the worker to which the task is bound.
+-- Seats by the entry that makes a task and by its own entries.
 use Rattle.std.specs.Prelude.{ℕ, ◌+◌, List, [], ◌∷◌, Option, Some, None, Bool, true, ◌&&◌, not, cond, nat_eq, nat_lt}
 use Rattle.jt_base.specs.declared.operation.How.{How}
 use Rattle.jt_base.specs.declared.operation.How.TheVariants.{Default, Interactive, Async, Chunk}
@@ -8,10 +8,7 @@ use Rattle.jt_base.specs.declared.run.Pool.{Pool}
 use Rattle.jt_base.specs.declared.run.Pool.TheVariants as pool
 use Rattle.jt_base.specs.declared.run.Sizes.{Sizes}
 use Rattle.jt_base.specs.declared.entry.Entry.{Entry}
-
-pub record Seat : Type 0 where
-  pub pool : Pool
-  pub bound : Option ℕ
+use Rattle.jt_base.specs.Jobs.{Seat}
 
 -- the default workers have the first numbers, the interactive ones the next
 abbrev pub pool_of_worker : Sizes → ℕ → Pool
