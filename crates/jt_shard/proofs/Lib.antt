@@ -1,0 +1,11 @@
+pub mod Asked
+pub mod RunLaws
+pub mod Split
+pub mod Posted
+pub mod Sound
+pub mod Lines
+pub mod Stamps
+pub mod Room
+pub mod States
+pub mod Waking
+pub mod Applying

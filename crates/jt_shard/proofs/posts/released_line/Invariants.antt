@@ -1,0 +1,11 @@
+use Rattle.std.proofs.Common.{◌≡◌, ◌≤◌, ◌+◌, ◌++◌, length, map}
+use Rattle.std.specs.Vec.{vec_capacity}
+use Rattle.jt_shard.proofs.posts.released_line.Given as goal
+
+-- the jobs that were released, and those that are still in the line
+abbrev pub invariant-loop-job : goal.invariant-loop-job
+invariant-loop-job g l =
+    (l.jobs.items ++ map (λ w. w.0) l.line.items ≡ l.fn.jobs.items ++ map (λ w. w.0) l.fn.line.items) × (length l.jobs.items + length l.line.items ≤ vec_capacity l.jobs) × (vec_capacity l.jobs ≡ vec_capacity l.fn.jobs)
+
+abbrev pub decreases-loop-job : goal.decreases-loop-job
+decreases-loop-job g l = length l.line.items

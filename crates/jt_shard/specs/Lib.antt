@@ -1,0 +1,5 @@
+pub mod Serving
+pub mod Shards
+pub mod Posts
+pub mod Asking
+pub mod Calls

@@ -1,0 +1,16 @@
+//! A shard: the objects of one of the sixteen shards with their entries, and the jobs that wait for
+//! them. Tasks and the printer are served.
+#![tactic(auto)]
+
+mod applied;
+mod laws;
+mod line;
+mod noting;
+mod place;
+mod post;
+mod posts;
+mod shard;
+
+pub use applied::Applied;
+pub use laws::job_laws;
+pub use shard::Shard;
