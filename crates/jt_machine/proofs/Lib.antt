@@ -1,4 +1,12 @@
-pub mod Longer
-pub mod Mains
-pub mod Sofar
+pub mod Shelf
+pub mod Moving
+pub mod Waking
+pub mod Entering
+pub mod Following
+pub mod Serving
+pub mod Turning
+pub mod Falling
+pub mod Deadlocked
+pub mod Finish
+pub mod Starting
 mod Examples

@@ -1,13 +1,13 @@
 //! The run of a program by one worker.
 
-ghost use Rattle.std.specs.Prelude.{◌≡◌, ◌<◌, length, IfOk};
+ghost use Rattle.std.specs.Prelude.{◌≡◌, ◌<◌, ◌≤◌, length, IfOk};
 ghost use Rattle.jt_program.specs.View.{program_plan};
-ghost use Rattle.jt_machine.specs.Ends.{ended_by};
-ghost use Rattle.jt_machine.specs.Runs.{IsRun};
+ghost use Rattle.jt_machine.specs.Runs.{IsRun, one_worker};
 
-use jt_base::{Entry, Fault, Limits, Op, OutOfMemory, Path, Reply, Seeds};
+use crate::machine::Machine;
+use crate::setting::Setting;
+use jt_base::{Entry, Fault, Limits, OutOfMemory, Picks, Seeds, Sizes};
 use jt_program::Program;
-use jt_step::{Advance, Start, TaskRun};
 use std::alloc::Global;
 
 /// Why a run ends.
@@ -17,6 +17,8 @@ pub enum End {
     Ok,
     /// The main task has failed.
     MainFailed(Fault),
+    /// The main task hasn't ended, and each task that hasn't ended waits for what isn't allowed.
+    Deadlock,
     /// The main task hasn't ended, and a further entry would have a stamp beyond the limit.
     EventLimit,
 }
@@ -28,56 +30,55 @@ pub struct Run {
     pub end: End,
 }
 
-/// What a run has come to by an operation of the main task.
-fn ended_by(alloc: Global, op: &Op) -> Result<Option<End>, OutOfMemory>
-    ensures { IfOk result (λ end. end ≡ ended_by op.now) }
-{
-    match op {
-        Op::End(_) => Ok(Some(End::Ok)),
-        Op::Fail(fault) => {
-            let fault = fault.copy(alloc)?;
-            Ok(Some(End::MainFailed(fault)))
-        }
-        _ => Ok(None),
-    }
-}
-
-/// Runs a program on worker 0 until its main task has ended or failed, or the limit on stamps is met.
+/// Runs a program on one worker until its main task has ended or failed, no task can go on, or the
+/// limit on stamps is met. Which of the tasks that can go on is next is said by the picks.
+///
+/// # Errors
+///
+/// Where memory is wanting.
 pub fn run_plain(
     alloc: Global,
     program: &Program,
     seeds: &Seeds,
+    picks: Picks,
     limits: &Limits,
 ) -> Result<Run, OutOfMemory>
     requires main { 0 < length program.now.tasks }
-    ensures { IfOk result (λ run. IsRun (program_plan program.now) seeds.now limits.now run.history.items run.end) }
+    ensures { IfOk result (λ run. IsRun (record { program = program_plan program.now; sizes = one_worker; limits = limits.now }) seeds.now run.history.items run.end) }
 {
-    let mut main = TaskRun::start(alloc, program, Start::main(seeds), limits)?;
-    let mut history = Vec::new(alloc);
-    loop {
-        match main.advance(u32::MAX)? {
-            Advance::More => {}
-            Advance::Needs(op) => {
-                if history.len() >= limits.events as usize {
-                    let end = End::EventLimit;
-                    return Ok(Run { history, end });
-                }
-                let stamp = history.len() as u32 + 1;
-                let end = ended_by(alloc, &op)?;
-                main.reserve_note()?;
-                history.push(Entry {
-                    stamp,
-                    worker: 0,
-                    task: Path::main(),
-                    op,
-                    reply: Reply::Ok,
-                })?;
-                main.note(stamp, Reply::Ok);
-                if let Some(end) = end {
-                    return Ok(Run { history, end });
-                }
-            }
-            Advance::Over => unreachable!(),
-        }
-    }
+    let sizes = Sizes {
+        default: 1,
+        interactive: 0,
+    };
+    run_on_one_worker(alloc, program, seeds, sizes, picks, limits)
+}
+
+/// The same where there are more workers: worker 0, one of the default workers, makes every entry.
+///
+/// # Errors
+///
+/// Where memory is wanting.
+pub fn run_on_one_worker(
+    alloc: Global,
+    program: &Program,
+    seeds: &Seeds,
+    sizes: Sizes,
+    picks: Picks,
+    limits: &Limits,
+) -> Result<Run, OutOfMemory>
+    requires main { 0 < length program.now.tasks }
+    requires worker { 1 ≤ sizes.default }
+    ensures { IfOk result (λ run. IsRun (record { program = program_plan program.now; sizes = sizes; limits = limits.now }) seeds.now run.history.items run.end) }
+{
+    let setting = Setting {
+        alloc,
+        program,
+        seeds: *seeds,
+        sizes,
+        limits: *limits,
+    };
+    let mut machine = Machine::start(&setting)?;
+    let end = machine.run(&setting, picks)?;
+    let history = machine.into_history(alloc)?;
+    Ok(Run { history, end })
 }

@@ -1,5 +1,5 @@
 -- A program as plain data: what a `Code` holds, without the boxes and vectors that hold it.
-use Rattle.std.specs.Prelude.{ℕ, List}
+use Rattle.std.specs.Prelude.{ℕ, Bool, List}
 use Rattle.jt_syntax.specs.declared.operator.ComparisonOperator.{ComparisonOperator}
 use Rattle.jt_syntax.specs.declared.operator.Connective.{Connective}
 use Rattle.jt_syntax.specs.declared.operator.UnaryOperator.{UnaryOperator}
@@ -27,6 +27,10 @@ mutual
     call : Callee → Plans → Plan
     print : Pieces → Plan
     error : List ℕ → Plan
+    -- a task: its body's number, the slots of the variables that it takes, and whether the `@sync`
+    -- round it waits for the task
+    spawn : ℕ → List ℕ → Bool → Plan
+    sync : Plan → Plan
     return : Plan → Plan
     break : Plan
     continue : Plan

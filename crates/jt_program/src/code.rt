@@ -40,6 +40,12 @@ pub enum BuiltIn {
     Rem,
     /// `mod`
     Mod,
+    /// `fetch` of a task: waits for its end and gives its value.
+    Fetch,
+    /// `wait` for a task: waits for its end.
+    Wait,
+    /// `yield`: lets other tasks run.
+    Yield,
 }
 
 /// What is called.
@@ -48,6 +54,17 @@ pub enum Callee {
     /// A function of the script, by its number from 0 on.
     Function(usize),
     BuiltIn(BuiltIn),
+}
+
+/// The making of a task.
+#[derive(Drop)]
+pub struct Fork {
+    /// The number of the task's body, from 1 on.
+    pub body: u32,
+    /// The slots of the variables whose values the task takes from its maker.
+    pub captured: Items<usize>,
+    /// Whether the `@sync` round it waits for the task.
+    pub is_awaited: bool,
 }
 
 /// A part of what a task does.
@@ -85,6 +102,11 @@ pub enum Code {
     Print(Items<Piece>),
     /// Fails with this text.
     Error(Items<u8>),
+    /// Makes a task and gives its handle.
+    Spawn(Fork),
+    /// Does a part, and then waits for the awaited tasks that were made in it, in the order of their
+    /// making. Fails with the first of them that failed; its value is that of the part.
+    Sync(Boxed<Code>),
     Return(Boxed<Code>),
     Break,
     Continue,

@@ -1,14 +1,13 @@
 //! Whole scripts to programs.
 
-ghost use Rattle.std.specs.Prelude.{◌≡◌, ◌∷◌, ℕ, List, OnOk, IfOk, IfErr, length, reverse, map};
-ghost use Rattle.jt_program.specs.Plan as plan;
+ghost use Rattle.std.specs.Prelude.{◌≡◌, ◌∷◌, List, OnOk, IfOk, IfErr, reverse, map};
 ghost use Rattle.jt_program.specs.View.{plan_of, plans, body_plan, program_plan};
 ghost use Rattle.jt_resolve.specs.Behind.{behind, body_step, plan_step};
 ghost use Rattle.jt_resolve.specs.Bind.{numbers};
-ghost use Rattle.jt_resolve.specs.Bound.{bound, bound_steps};
+ghost use Rattle.jt_resolve.specs.Made.{with};
 ghost use Rattle.jt_resolve.specs.Programs as spec;
 ghost use Rattle.jt_resolve.specs.Refusals.{Refuses, refusal_of};
-ghost use Rattle.jt_scopes.specs.Names as names;
+ghost use Rattle.jt_collect.specs.Names as names;
 ghost use Rattle.jt_scopes.specs.Scopes as scopes;
 ghost use Rattle.jt_scopes.specs.Scripts.{BreaksNone};
 ghost use Rattle.jt_syntax.specs.Tree.{TopTree};
@@ -32,6 +31,7 @@ fn refusal(broken: Broken) -> NameError
 {
     match broken.rule {
         Rule::UnknownName => NameError::UnknownName(broken.at),
+        Rule::CapturedAssigned => NameError::CapturedAssigned(broken.at),
         Rule::AmbiguousGlobal => NameError::AmbiguousGlobal(broken.at),
         Rule::TwiceDefined => NameError::TwiceDefined(broken.at),
         Rule::WrongCount => NameError::WrongCount(broken.at),
@@ -54,15 +54,16 @@ impl Bind {
     fn function(
         &self,
         chain: &mut Items<Scope>,
+        bodies: &mut Items<Body>,
         parameters: &[Identifier],
         body: &[Stmt],
     ) -> Result<Body, AllocError>
         ensures chain { OnOk result (chain.new ≡ chain.old) }
-        ensures body { IfOk result (λ b. body_plan b ≡ record { variables = length (scopes.function_scope parameters.now (trees.stmt_views body.now)).names; code = plan.block (bound_steps (numbers self.now) (scopes.function_scope parameters.now (trees.stmt_views body.now) ∷ reverse chain.old) (trees.stmt_views body.now)) }) }
+        ensures body { IfOk result (λ b. spec.function_of (numbers self.now) (reverse chain.old) (map body_plan bodies.old) (scopes.function_scope parameters.now (trees.stmt_views body.now)) (trees.stmt_views body.now) ≡ record { it = body_plan b; bodies = map body_plan bodies.new }) }
     {
         let scope = function_scope(self.alloc, parameters, body)?;
         let variables = scope.names.len();
-        let parts = self.within(chain, scope, body)?;
+        let parts = self.within(chain, bodies, scope, body)?;
         Ok(Body {
             variables,
             code: block(parts),
@@ -72,17 +73,16 @@ impl Bind {
     fn short_function(
         &self,
         chain: &mut Items<Scope>,
+        bodies: &mut Items<Body>,
         parameters: &[Identifier],
         value: &Expr,
     ) -> Result<Body, AllocError>
         ensures chain { OnOk result (chain.new ≡ chain.old) }
-        ensures body { IfOk result (λ b. body_plan b ≡ record { variables = length (scopes.short_scope parameters.now (trees.view value.now)).names; code = bound (numbers self.now) (scopes.short_scope parameters.now (trees.view value.now) ∷ reverse chain.old) (trees.view value.now) }) }
+        ensures body { IfOk result (λ b. spec.short_function_of (numbers self.now) (reverse chain.old) (map body_plan bodies.old) (scopes.short_scope parameters.now (trees.view value.now)) (trees.view value.now) ≡ record { it = body_plan b; bodies = map body_plan bodies.new }) }
     {
         let scope = short_scope(self.alloc, parameters, value)?;
         let variables = scope.names.len();
-        chain.push(scope)?;
-        let code = self.expression(chain, value)?;
-        let _scope = chain.pop();
+        let code = self.inside(chain, bodies, scope, value)?;
         Ok(Body { variables, code })
     }
 
@@ -92,20 +92,26 @@ impl Bind {
         &self,
         chain: &mut Items<Scope>,
         bodies: &mut Items<Body>,
+        functions: &mut Items<Body>,
         top: &Top,
     ) -> Result<(), AllocError>
         ensures chain { OnOk result (chain.new ≡ chain.old) }
-        ensures bodies { OnOk result ((tops : List TopTree) → behind body_step bodies.new (spec.bodies_of (numbers self.now) (reverse chain.old) tops) ≡ behind body_step bodies.old (spec.bodies_of (numbers self.now) (reverse chain.old) (trees.top_view top.now ∷ tops))) }
+        ensures functions { OnOk result ((tops : List TopTree) → with (behind body_step functions.new) (spec.bodies_of (numbers self.now) (reverse chain.old) (map body_plan bodies.new) tops) ≡ with (behind body_step functions.old) (spec.bodies_of (numbers self.now) (reverse chain.old) (map body_plan bodies.old) (trees.top_view top.now ∷ tops))) }
     {
         match &top.form {
             TopForm::Function(_, parameters, body) => {
-                let body = self.function(chain, parameters.as_slice(), body.as_slice())?;
-                bodies.push(body)?;
+                let function = self.function(
+                    chain,
+                    bodies,
+                    parameters.as_slice(),
+                    body.as_slice(),
+                )?;
+                functions.push(function)?;
                 Ok(())
             }
             TopForm::ShortFunction(_, parameters, value) => {
-                let body = self.short_function(chain, parameters.as_slice(), value)?;
-                bodies.push(body)?;
+                let function = self.short_function(chain, bodies, parameters.as_slice(), value)?;
+                functions.push(function)?;
                 Ok(())
             }
             TopForm::Using | TopForm::Constant(_, _) | TopForm::Stmt(_) => Ok(()),
@@ -113,29 +119,34 @@ impl Bind {
     }
 
     /// The functions in the order of the script.
-    #[tactic(auto, using(crate::proofs::Behind::bodies_behind))]
-    fn functions(&self, chain: &mut Items<Scope>, tops: &[Top]) -> Result<Items<Body>, AllocError>
+    fn functions(
+        &self,
+        chain: &mut Items<Scope>,
+        bodies: &mut Items<Body>,
+        tops: &[Top],
+    ) -> Result<Items<Body>, AllocError>
         ensures chain { OnOk result (chain.new ≡ chain.old) }
-        ensures bodies { IfOk result (λ p. map body_plan p ≡ spec.bodies_of (numbers self.now) (reverse chain.old) (trees.top_views tops.now)) }
+        ensures functions { IfOk result (λ p. spec.bodies_of (numbers self.now) (reverse chain.old) (map body_plan bodies.old) (trees.top_views tops.now) ≡ record { it = map body_plan p; bodies = map body_plan bodies.new }) }
     {
-        let mut bodies = Items::new(self.alloc);
+        let mut functions = Items::new(self.alloc);
         for top in tops {
-            self.add_function(chain, &mut bodies, top)?;
+            self.add_function(chain, bodies, &mut functions, top)?;
         }
-        Ok(bodies)
+        Ok(functions)
     }
 
     fn definition(
         &self,
         chain: &mut Items<Scope>,
+        bodies: &mut Items<Body>,
         name: &Identifier,
         value: &Expr,
     ) -> Result<Code, AllocError>
         ensures chain { OnOk result (chain.new ≡ chain.old) }
-        ensures code { IfOk result (λ p. plan_of p ≡ plan.define (spec.position_or 0 (names.index self.now.constants name.now.name)) (bound (numbers self.now) (reverse chain.old) (trees.view value.now))) }
+        ensures code { IfOk result (λ p. spec.definition_of (numbers self.now) (reverse chain.old) (map body_plan bodies.old) name.now (trees.view value.now) ≡ record { it = plan_of p; bodies = map body_plan bodies.new }) }
     {
         let number = constant_number(&self.constants, name.name.as_slice());
-        let value = self.expression(chain, value)?;
+        let value = self.expression(chain, bodies, value)?;
         define(self.alloc, number, value)
     }
 
@@ -144,20 +155,21 @@ impl Bind {
     fn add_part(
         &self,
         chain: &mut Items<Scope>,
+        bodies: &mut Items<Body>,
         parts: &mut Items<Code>,
         top: &Top,
     ) -> Result<(), AllocError>
         ensures chain { OnOk result (chain.new ≡ chain.old) }
-        ensures parts { OnOk result ((tops : List TopTree) → behind plan_step parts.new (spec.main_of (numbers self.now) (reverse chain.old) tops) ≡ behind plan_step parts.old (spec.main_of (numbers self.now) (reverse chain.old) (trees.top_view top.now ∷ tops))) }
+        ensures parts { OnOk result ((tops : List TopTree) → with (behind plan_step parts.new) (spec.main_of (numbers self.now) (reverse chain.old) (map body_plan bodies.new) tops) ≡ with (behind plan_step parts.old) (spec.main_of (numbers self.now) (reverse chain.old) (map body_plan bodies.old) (trees.top_view top.now ∷ tops))) }
     {
         match &top.form {
             TopForm::Constant(name, value) => {
-                let code = self.definition(chain, name, value)?;
+                let code = self.definition(chain, bodies, name, value)?;
                 parts.push(code)?;
                 Ok(())
             }
             TopForm::Stmt(statement) => {
-                let code = self.statement(chain, statement)?;
+                let code = self.statement(chain, bodies, statement)?;
                 parts.push(code)?;
                 Ok(())
             }
@@ -166,14 +178,18 @@ impl Bind {
     }
 
     /// What the main task does.
-    #[tactic(auto, using(crate::proofs::Behind::plans_push, crate::proofs::Behind::plans_behind))]
-    fn main(&self, chain: &mut Items<Scope>, tops: &[Top]) -> Result<Items<Code>, AllocError>
+    fn main(
+        &self,
+        chain: &mut Items<Scope>,
+        bodies: &mut Items<Body>,
+        tops: &[Top],
+    ) -> Result<Items<Code>, AllocError>
         ensures chain { OnOk result (chain.new ≡ chain.old) }
-        ensures parts { IfOk result (λ p. plans p ≡ spec.main_of (numbers self.now) (reverse chain.old) (trees.top_views tops.now)) }
+        ensures parts { IfOk result (λ p. spec.main_of (numbers self.now) (reverse chain.old) (map body_plan bodies.old) (trees.top_views tops.now) ≡ record { it = plans p; bodies = map body_plan bodies.new }) }
     {
         let mut parts = Items::new(self.alloc);
         for top in tops {
-            self.add_part(chain, &mut parts, top)?;
+            self.add_part(chain, bodies, &mut parts, top)?;
         }
         parts.push(nothing())?;
         Ok(parts)
@@ -193,13 +209,15 @@ fn program(alloc: Global, script: &Script) -> Result<Program, AllocError>
     };
     let mut chain = Items::new(alloc);
     chain.push(scope)?;
-    let functions = bind.functions(&mut chain, tops)?;
-    let parts = bind.main(&mut chain, tops)?;
+    let mut bodies = Items::new(alloc);
+    let functions = bind.functions(&mut chain, &mut bodies, tops)?;
+    let parts = bind.main(&mut chain, &mut bodies, tops)?;
     let mut tasks = Items::new(alloc);
     tasks.push(Body {
         variables,
         code: block(parts),
     })?;
+    tasks.append(bodies)?;
     Ok(Program {
         constants: bind.constants.len(),
         functions,

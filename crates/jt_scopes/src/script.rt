@@ -9,10 +9,10 @@ ghost use Rattle.jt_syntax.specs.View.{view, stmt_views, form_view, script_view,
 
 use crate::context::context_of;
 use crate::found::Found;
-use crate::names::Names;
 use crate::rules::Broken;
 use crate::scope::{function_scope, script_scope, short_scope};
 use crate::walk::Walk;
+use jt_collect::Names;
 use jt_syntax::{Expr, Identifier, Script, Stmt, Top, TopForm};
 use sqlite_items::Items;
 use std::alloc::{AllocError, Global};

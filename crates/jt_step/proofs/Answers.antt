@@ -1,14 +1,14 @@
 -- A reply is taken.
-use Rattle.std.proofs.Common.{◌≡◌, ℕ, ◌+◌, ◌<◌, List, [], ◌∷◌, ◌++◌, length, map, drop, get_or, drop-cons, add-one, refl, sym, ap, ◌∙◌, Bor, Option, None, true, false}
+use Rattle.std.proofs.Common.{◌≡◌, ℕ, ◌+◌, ◌<◌, List, [], ◌∷◌, ◌++◌, length, get_or, drop-cons, add-one, refl, sym, ap, ◌∙◌, Bor, Option, true}
 use Rattle.jt_base.specs.declared.entry.Note.{Note}
+use Rattle.jt_base.specs.Jobs.{note_reply}
 use Rattle.jt_base.specs.declared.operation.Fault.{Fault}
 use Rattle.jt_base.specs.declared.operation.Op.{Op}
-use Rattle.jt_base.specs.declared.operation.Op.TheVariants as op
 use Rattle.jt_base.specs.declared.operation.Reply.{Reply}
 use Rattle.jt_base.specs.declared.operation.Reply.TheVariants as reply
 use Rattle.jt_base.specs.declared.value.Value.{Value}
 use Rattle.jt_program.specs.declared.code.Code.{Code}
-use Rattle.jt_program.specs.Plan.{BodyPlan}
+use Rattle.jt_program.specs.Plan.{ProgramPlan}
 use Rattle.jt_program.specs.View.{plan_of}
 use Rattle.jt_step.specs.declared.frame.Frame.{Frame}
 use Rattle.jt_step.specs.declared.frame.Frame.TheVariants as frame
@@ -20,11 +20,10 @@ use Rattle.jt_step.specs.State.{State, Asks, Unfit, Given, given, answered}
 use Rattle.jt_step.specs.State as state
 use Rattle.jt_step.specs.Meaning.{ended, whole}
 use Rattle.jt_step.specs.Stack.{after, through, resume, state_of, at, doing, waits, taken, given_mode, over_by, begun_by, unused}
-use Rattle.jt_step.specs.Tasks.{reply_of_note}
-use Rattle.jt_step.proofs.Agrees.{goes}
+use Rattle.jt_step.specs.Agrees.{goes}
 
-module _ (functions : List BodyPlan) where
-  after_unfit : (f : Frame) → after functions f Unfit ≡ Unfit
+module _ (program : ProgramPlan) where
+  after_unfit : (f : Frame) → after program f Unfit ≡ Unfit
   after_unfit (frame.Assign x) = refl
   after_unfit (frame.Define k) = refl
   after_unfit (frame.Unary u) = refl
@@ -42,13 +41,15 @@ module _ (functions : List BodyPlan) where
   after_unfit (frame.Arguments f es vs) = refl
   after_unfit (frame.Pieces ps text) = refl
   after_unfit (frame.Call variables n) = refl
+  after_unfit (frame.Sync outer) = refl
+  after_unfit (frame.Waiting w) = refl
   after_unfit frame.Return = refl
 
-  through_unfit : (fs : List Frame) → through functions fs Unfit ≡ Unfit
+  through_unfit : (fs : List Frame) → through program fs Unfit ≡ Unfit
   through_unfit [] = refl
-  through_unfit (f ∷ fs) = ap (after functions f) (through_unfit fs) ∙ after_unfit f
+  through_unfit (f ∷ fs) = ap (after program f) (through_unfit fs) ∙ after_unfit f
 
-  after_asks : (f : Frame) (o : Op) (start : Option Start) (s : State) → after functions f (Asks o start s) ≡ Asks o start s
+  after_asks : (f : Frame) (o : Op) (start : Option Start) (s : State) → after program f (Asks o start s) ≡ Asks o start s
   after_asks (frame.Assign x) o start s = refl
   after_asks (frame.Define k) o start s = refl
   after_asks (frame.Unary u) o start s = refl
@@ -66,20 +67,22 @@ module _ (functions : List BodyPlan) where
   after_asks (frame.Arguments f es vs) o start s = refl
   after_asks (frame.Pieces ps text) o start s = refl
   after_asks (frame.Call variables n) o start s = refl
+  after_asks (frame.Sync outer) o start s = refl
+  after_asks (frame.Waiting w) o start s = refl
   after_asks frame.Return o start s = refl
 
   -- an operation waits, whatever the frames are
-  pub through_asks : (fs : List Frame) (o : Op) (start : Option Start) (s : State) → through functions fs (Asks o start s) ≡ Asks o start s
+  pub through_asks : (fs : List Frame) (o : Op) (start : Option Start) (s : State) → through program fs (Asks o start s) ≡ Asks o start s
   through_asks [] o start s = refl
-  through_asks (f ∷ fs) o start s = ap (after functions f) (through_asks fs o start s) ∙ after_asks f o start s
+  through_asks (f ∷ fs) o start s = ap (after program f) (through_asks fs o start s) ∙ after_asks f o start s
 
-  given_at : (m : Machine) (g : Given) (rs : List Reply) → doing functions m.frames.items (given_mode g) (state_of m rs) ≡ resume functions m.frames.items (answered g (state_of m rs))
+  given_at : (m : Machine) (g : Given) (rs : List Reply) → doing program m.frames.items (given_mode g) (state_of m rs) ≡ resume program m.frames.items (answered g (state_of m rs))
   given_at m (state.value v) rs = refl
   given_at m (state.fault f) rs = refl
   given_at m state.unfit rs = sym (ap ended (through_unfit m.frames.items))
 
-  begun_at : (m : Machine) (e : Bor Code) (r : Reply) (rs : List Reply) → at functions m (begun_by e r) rs ≡ at functions m (mode.Begins e) (r ∷ rs)
-  begun_at m e reply.Ok rs = ap (resume functions m.frames.items) (sym (goes functions (whole (plan_of e.now)) (state_of m rs)))
+  begun_at : (m : Machine) (e : Bor Code) (r : Reply) (rs : List Reply) → at program m (begun_by e r) rs ≡ at program m (mode.Begins e) (r ∷ rs)
+  begun_at m e reply.Ok rs = ap (resume program m.frames.items) (sym (goes program (whole (plan_of e.now)) (state_of m rs)))
   begun_at m e (reply.Int i) rs = refl
   begun_at m e (reply.Flag b) rs = refl
   begun_at m e (reply.Val v) rs = refl
@@ -90,7 +93,7 @@ module _ (functions : List BodyPlan) where
   begun_at m e reply.NotOwner rs = refl
   begun_at m e reply.NotHeld rs = refl
 
-  ending_at : (m : Machine) (v : Value) (r : Reply) (rs : List Reply) → at functions m (over_by r) rs ≡ at functions m (mode.Ending v) (r ∷ rs)
+  ending_at : (m : Machine) (v : Value) (r : Reply) (rs : List Reply) → at program m (over_by r) rs ≡ at program m (mode.Ending v) (r ∷ rs)
   ending_at m w reply.Ok rs = refl
   ending_at m w (reply.Int i) rs = refl
   ending_at m w (reply.Flag b) rs = refl
@@ -102,7 +105,7 @@ module _ (functions : List BodyPlan) where
   ending_at m w reply.NotOwner rs = refl
   ending_at m w reply.NotHeld rs = refl
 
-  failing_at : (m : Machine) (f : Fault) (r : Reply) (rs : List Reply) → at functions m (over_by r) rs ≡ at functions m (mode.Failing f) (r ∷ rs)
+  failing_at : (m : Machine) (f : Fault) (r : Reply) (rs : List Reply) → at program m (over_by r) rs ≡ at program m (mode.Failing f) (r ∷ rs)
   failing_at m f reply.Ok rs = refl
   failing_at m f (reply.Int i) rs = refl
   failing_at m f (reply.Flag b) rs = refl
@@ -115,9 +118,9 @@ module _ (functions : List BodyPlan) where
   failing_at m f reply.NotHeld rs = refl
 
   -- the machine does after a reply what it does before it
-  pub taken_at : (m : Machine) (md : Mode) (r : Reply) (rs : List Reply) → waits md ≡ true → at functions m (taken md r) rs ≡ at functions m md (r ∷ rs)
+  pub taken_at : (m : Machine) (md : Mode) (r : Reply) (rs : List Reply) → waits md ≡ true → at program m (taken md r) rs ≡ at program m md (r ∷ rs)
   taken_at m (mode.Begins e) r rs h = begun_at m e r rs
-  taken_at m (mode.Waits o) r rs h = given_at m (given o r) rs
+  taken_at m (mode.Waits o start) r rs h = given_at m (given o r) rs
   taken_at m (mode.Ending v) r rs h = ending_at m v r rs
   taken_at m (mode.Failing f) r rs h = failing_at m f r rs
   taken_at m (mode.Eval e) r rs h = cc
@@ -131,12 +134,12 @@ module _ (functions : List BodyPlan) where
   taken_at m mode.Over r rs h = cc
   taken_at m mode.Unfit r rs h = cc
 
-unused_next : (log : List Note) (used : ℕ) (n : Note) → used < length log → unused log used ≡ reply_of_note (get_or log used n) ∷ unused log (used + 1)
+unused_next : (log : List Note) (used : ℕ) (n : Note) → used < length log → unused log used ≡ note_reply (get_or log used n) ∷ unused log (used + 1)
 unused_next log used n h = rw (add-one, drop-cons log used n)
 
-module _ (functions : List BodyPlan) where
-  pub reply_step : (m : Machine) (md md' : Mode) (log : List Note) (used : ℕ) (n : Note) (rs : List Reply) → used < length log → true ≡ waits md → md' ≡ taken md (get_or log used n).reply → at functions m md' (unused log (used + 1) ++ rs) ≡ at functions m md (unused log used ++ rs)
+module _ (program : ProgramPlan) where
+  pub reply_step : (m : Machine) (md md' : Mode) (log : List Note) (used : ℕ) (n : Note) (rs : List Reply) → used < length log → true ≡ waits md → md' ≡ taken md (get_or log used n).reply → at program m md' (unused log (used + 1) ++ rs) ≡ at program m md (unused log used ++ rs)
   reply_step m md md' log used n rs h w e =
-      ap (λ d. at functions m d (unused log (used + 1) ++ rs)) e
-      ∙ taken_at functions m md (get_or log used n).reply (unused log (used + 1) ++ rs) (sym w)
-      ∙ ap (λ xs. at functions m md (xs ++ rs)) (sym (unused_next log used n h))
+      ap (λ d. at program m d (unused log (used + 1) ++ rs)) e
+      ∙ taken_at program m md (get_or log used n).reply (unused log (used + 1) ++ rs) (sym w)
+      ∙ ap (λ xs. at program m md (xs ++ rs)) (sym (unused_next log used n h))

@@ -1,8 +1,3 @@
-pub mod Turns
-pub mod Agrees
-pub mod Fine
-pub mod More
-pub mod Laws
 pub mod Weights
 pub mod Resumes
 pub mod Plans
@@ -15,4 +10,8 @@ pub mod Begins
 pub mod Answers
 pub mod Tells
 pub mod Starts
+pub mod Syncs
+pub mod Forks
+pub mod Notes
 mod Examples
+mod SerialExamples

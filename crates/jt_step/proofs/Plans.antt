@@ -9,6 +9,7 @@ use Rattle.jt_program.specs.declared.code.Literal.{Literal}
 use Rattle.jt_program.specs.declared.code.Code.{Code, the_lemmas}
 use Rattle.jt_program.specs.declared.code.Code.TheVariants as code
 use Rattle.jt_program.specs.declared.code.Arm.{Arm}
+use Rattle.jt_program.specs.declared.code.Fork.{Fork}
 use Rattle.jt_program.specs.declared.code.Piece.{Piece}
 use Rattle.jt_program.specs.declared.code.Piece.TheVariants as piece
 use Rattle.jt_program.specs.Plan as plan
@@ -62,6 +63,12 @@ plan-Print ps = search (rules, the_lemmas)
 
 pub plan-Error : (t : List ℕ) → plan_of (code.Error t) ≡ plan.error t
 plan-Error t = search (rules, the_lemmas)
+
+pub plan-Spawn : (f : Fork) → plan_of (code.Spawn f) ≡ plan.spawn f.body f.captured f.is_awaited
+plan-Spawn f = search (rules, the_lemmas)
+
+pub plan-Sync : (e : Code) → plan_of (code.Sync e) ≡ plan.sync (plan_of e)
+plan-Sync e = search (rules, the_lemmas)
 
 pub plan-Return : (e : Code) → plan_of (code.Return e) ≡ plan.return (plan_of e)
 plan-Return e = search (rules, the_lemmas)

@@ -27,6 +27,8 @@ mutual
   weight_least (plan.call f es) = omega (arith, plans_least es)
   weight_least (plan.print ps) = omega arith
   weight_least (plan.error t) = omega arith
+  weight_least (plan.spawn body slots awaits) = omega arith
+  weight_least (plan.sync e) = omega arith
   weight_least (plan.return e) = omega arith
   weight_least plan.break = omega arith
   weight_least plan.continue = omega arith
@@ -74,6 +76,8 @@ frame_least (frame.Loop l) = omega (arith, loop_least l)
 frame_least (frame.Arguments f es vs) = omega (arith, plans_least (plans es.now))
 frame_least (frame.Pieces ps text) = omega (arith, pieces_least (pieces_in ps.now))
 frame_least (frame.Call variables n) = omega arith
+frame_least (frame.Sync outer) = omega arith
+frame_least (frame.Waiting w) = omega arith
 frame_least frame.Return = omega arith
 
 pub weight_push : (fs : List Frame) (f : Frame) → frames_weight (fs ++ f ∷ []) ≡ frames_weight fs + frame_weight f

@@ -1,6 +1,6 @@
 -- The code of a program's plain data, by which a proof tells its values apart: a tree of labels, from
 -- which the data are read back.
-use Rattle.std.specs.Prelude.{◌≡◌, ℕ, List, refl}
+use Rattle.std.specs.Prelude.{◌≡◌, ℕ, Bool, List, refl}
 use mathlib.Core.Path.{sym, ap, subst}
 use base.Stored.{Gv, gnil, gnum, gcons}
 use Rattle.std.specs.Coded.{Coded, code_by, coded×, coded_ℕ, coded_list}
@@ -69,6 +69,8 @@ pub data Label : Type 0 where
   call_label : Callee → Label
   print_label : Label
   error_label : List ℕ → Label
+  spawn_label : ℕ → List ℕ → Bool → Label
+  sync_label : Label
   return_label : Label
   break_label : Label
   continue_label : Label
@@ -98,6 +100,8 @@ abbrev mutual
   plan_tree (plan.call f p) = node (call_label f) (plans_tree p) tip
   plan_tree (plan.print p) = node print_label (pieces_tree p) tip
   plan_tree (plan.error t) = node (error_label t) tip tip
+  plan_tree (plan.spawn n xs b) = node (spawn_label n xs b) tip tip
+  plan_tree (plan.sync p) = node sync_label (plan_tree p) tip
   plan_tree (plan.return p) = node return_label (plan_tree p) tip
   plan_tree plan.break = node break_label tip tip
   plan_tree plan.continue = node continue_label tip tip
@@ -141,6 +145,8 @@ abbrev mutual
   plan_in (node (call_label f) p t1) = plan.call f (plans_in p)
   plan_in (node print_label p t1) = plan.print (pieces_in p)
   plan_in (node (error_label t) t1 t2) = plan.error t
+  plan_in (node (spawn_label n xs b) t1 t2) = plan.spawn n xs b
+  plan_in (node sync_label p t1) = plan.sync (plan_in p)
   plan_in (node return_label p t1) = plan.return (plan_in p)
   plan_in (node continue_label t1 t2) = plan.continue
   plan_in t = plan.break
@@ -184,6 +190,8 @@ mutual
   plan_back (plan.call f p) = λ i. plan.call f (plans_back p i)
   plan_back (plan.print p) = λ i. plan.print (pieces_back p i)
   plan_back (plan.error t) = refl
+  plan_back (plan.spawn n xs b) = refl
+  plan_back (plan.sync p) = λ i. plan.sync (plan_back p i)
   plan_back (plan.return p) = λ i. plan.return (plan_back p i)
   plan_back plan.break = refl
   plan_back plan.continue = refl

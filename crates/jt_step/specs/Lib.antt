@@ -7,3 +7,10 @@ pub mod Stack
 pub mod Moves
 pub mod Task
 pub mod Codes
+pub mod Serial
+pub mod Turns
+pub mod Agrees
+pub mod Fine
+pub mod More
+pub mod Spawned
+pub mod Laws

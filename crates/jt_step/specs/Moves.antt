@@ -1,19 +1,25 @@
 -- What single moves of a machine come to.
-use Rattle.std.specs.Prelude.{◌≡◌, ℕ, ◌+◌, ◌<◌, List, Option, Some, None, Ok, Err, Bool, true, false, int_le}
+use Rattle.std.specs.Prelude.{◌≡◌, ℕ, ◌+◌, ◌<◌, List, [], ◌∷◌, Option, Some, None, Ok, Err, Bool, true, false, int_le}
 use denote.Bor.{Bor}
 use Rattle.jt_base.specs.declared.value.Value.{Value}
 use Rattle.jt_base.specs.declared.value.Value.TheVariants.{Int, Flag, Nothing, Task, Object}
+use Rattle.jt_base.specs.declared.operation.Fault.{Fault}
+use Rattle.jt_base.specs.declared.operation.Op.TheVariants as op
+use Rattle.jt_program.specs.declared.code.BuiltIn.{BuiltIn}
+use Rattle.jt_program.specs.declared.code.BuiltIn.TheVariants as built_in
 use Rattle.jt_base.specs.declared.operation.Fault.TheVariants.{Method, Undefined}
 use Rattle.jt_syntax.specs.declared.operator.Connective.{Connective}
 use Rattle.jt_syntax.specs.declared.operator.Connective.TheVariants as connective
 use Rattle.jt_program.specs.declared.code.Code.{Code}
 use Rattle.jt_base.specs.declared.operation.Reply.{Reply}
 use Rattle.jt_program.specs.declared.code.Piece.{Piece}
-use Rattle.jt_program.specs.Plan.{BodyPlan, Pieces}
+use Rattle.jt_program.specs.Plan.{BodyPlan, ProgramPlan, Pieces}
 use Rattle.jt_program.specs.Plan as plan
 use Rattle.jt_program.specs.View.{plan_of}
 use Rattle.jt_step.specs.State.{Step}
-use Rattle.jt_step.specs.Values.{Valued}
+use Rattle.jt_step.specs.Values.{Valued, applied}
+use Rattle.jt_step.specs.declared.frame.Exit.{Exit}
+use Rattle.jt_step.specs.declared.frame.Exit.TheVariants as exit
 use Rattle.jt_step.specs.Stack.{at, pieces_in, resume, state_of, work, frames_weight}
 use Rattle.jt_step.specs.declared.frame.Loop.{Loop}
 use Rattle.jt_step.specs.declared.frame.Loop.TheVariants as loop
@@ -60,8 +66,21 @@ abbrev pub from_value : Option (Bor Code × Bor (List Piece)) → Pieces
 from_value None = plan.no_pieces
 from_value (Some p) = plan.value_piece (plan_of p.0.now) (pieces_in p.1.now)
 
+-- a call of a function of the language
+abbrev pub built_in_mode : BuiltIn → List Value → Mode
+built_in_mode built_in.Fetch (Task path ∷ []) = mode.Waits (op.Fetch path) None
+built_in_mode built_in.Wait (Task path ∷ []) = mode.Waits (op.Wait path) None
+built_in_mode built_in.Yield [] = mode.Waits op.Yield None
+built_in_mode f vs = valued_mode (applied f vs)
+
+-- how the part of an `@sync` ends once its tasks were waited for
+abbrev pub left_mode : Exit → Value → Option Fault → Mode
+left_mode x v (Some f) = mode.Faulted f
+left_mode exit.Value v None = mode.Gave v
+left_mode exit.Return v None = mode.Returned v
+
 -- one machine does this in the place of the other, with less work than so much and its frames
-pub record Does (functions : List BodyPlan) (m : Machine) (step : Step) (most : ℕ) (m' : Machine) (md : Mode) : Type 0 where
-  pub same : (rs : List Reply) → at functions m' md rs ≡ resume functions m.frames.items (step (state_of m rs))
+pub record Does (program : ProgramPlan) (m : Machine) (step : Step) (most : ℕ) (m' : Machine) (md : Mode) : Type 0 where
+  pub same : (rs : List Reply) → at program m' md rs ≡ resume program m.frames.items (step (state_of m rs))
   pub less : work m' md < most + frames_weight m.frames.items
   pub turns : m'.turns ≡ m.turns

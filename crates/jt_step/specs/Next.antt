@@ -1,9 +1,10 @@
 -- What comes next for a task after the replies so far.
 use Rattle.std.specs.Prelude.{ℕ, List, [], ◌∷◌, Option, Some, None}
+use Rattle.jt_base.specs.declared.operation.How.TheVariants.{Default}
 use Rattle.jt_base.specs.declared.operation.Op.{Op}
-use Rattle.jt_base.specs.declared.operation.Op.TheVariants.{End, Fail, Print}
+use Rattle.jt_base.specs.declared.operation.Op.TheVariants.{End, Fail, Spawn, Fetch, Wait, Yield, Print}
 use Rattle.jt_base.specs.declared.operation.Reply.{Reply}
-use Rattle.jt_laws.specs.Coming.{Next, Needs, Spawns, Over}
+use Rattle.jt_base.specs.Coming.{Next, Needs, Spawns, Over}
 use Rattle.jt_program.specs.Plan.{ProgramPlan}
 use Rattle.jt_step.specs.declared.start.Start.{Start}
 use Rattle.jt_step.specs.State.{Out, Gave, Returned, Broke, Continued, Faulted, Asks, Unfit}
@@ -26,11 +27,15 @@ next_of Unfit = None
 -- with at most so many turns; nothing where a reply is none that its operation can have, or where
 -- replies are left behind the task's end
 abbrev pub next_operation : ProgramPlan → ℕ → List ℕ → Start → List Reply → Option (Next Start)
-next_operation program turns path start replies = next_of (task program turns start.code replies)
+next_operation program turns path start replies = next_of (task program turns path start replies)
 
--- an operation that comes once the task has begun
+-- an operation that comes once the task has begun; a task is made for the default pool
 abbrev pub IsLater : Op → Type 0
 IsLater (Print text) = Unit {0}
+IsLater (Spawn path Default) = Unit {0}
+IsLater (Fetch path) = Unit {0}
+IsLater (Wait path) = Unit {0}
+IsLater Yield = Unit {0}
 IsLater (End value) = Unit {0}
 IsLater (Fail fault) = Unit {0}
 IsLater op = ⊥

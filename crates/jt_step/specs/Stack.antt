@@ -1,30 +1,31 @@
 -- What is left to do, in the terms of the meaning.
-use Rattle.std.specs.Prelude.{◌≡◌, ℕ, zero, suc, ◌+◌, ◌<◌, ◌≤◌, ◌&&◌, ℤ, pos, ◌+ℤ◌, List, [], ◌∷◌, ◌++◌, Option, Some, None, Bool, true, false, nat_lt, int_le, slice_get, map, drop, length}
+use Rattle.std.specs.Prelude.{◌≡◌, ℕ, zero, suc, ◌+◌, ◌<◌, ◌≤◌, ◌&&◌, pos, ◌+ℤ◌, List, [], ◌∷◌, ◌++◌, Option, Some, None, Bool, true, false, nat_lt, slice_get, map, drop, length}
 use denote.Bor.{Bor}
 use Rattle.jt_base.specs.declared.value.Value.{Value}
-use Rattle.jt_base.specs.declared.value.Value.TheVariants.{Int, Flag, Nothing}
+use Rattle.jt_base.specs.declared.value.Value.TheVariants.{Int, Nothing}
 use Rattle.jt_base.specs.declared.operation.Fault.{Fault}
-use Rattle.jt_base.specs.declared.operation.Fault.TheVariants.{Method, Undefined, TurnLimit, StackLimit}
+use Rattle.jt_base.specs.declared.operation.Fault.TheVariants.{Method, TurnLimit, StackLimit}
 use Rattle.jt_base.specs.declared.operation.Op.TheVariants as op
 use Rattle.jt_base.specs.declared.operation.Reply.{Reply}
 use Rattle.jt_base.specs.declared.operation.Reply.TheVariants as reply
 use Rattle.jt_base.specs.declared.entry.Note.{Note}
+use Rattle.jt_base.specs.Jobs.{note_reply}
 use Rattle.jt_program.specs.declared.code.Code.{Code}
 use Rattle.jt_program.specs.declared.code.Arm.{Arm}
 use Rattle.jt_program.specs.declared.code.Piece.{Piece}
 use Rattle.jt_program.specs.declared.code.BinaryOperator.{BinaryOperator}
-use Rattle.jt_program.specs.declared.code.Callee.{Callee}
 use Rattle.jt_syntax.specs.declared.operator.ComparisonOperator.{ComparisonOperator}
-use Rattle.jt_program.specs.Plan.{Plan, Plans, Operands, Comparisons, Choices, Pieces, BodyPlan}
+use Rattle.jt_program.specs.Plan.{Plan, Plans, Operands, Comparisons, Choices, Pieces, BodyPlan, ProgramPlan}
 use Rattle.jt_program.specs.Plan as plan
 use Rattle.jt_program.specs.View.{plan_of, arm_plan, piece_plan, plans, operand_plan, operands_of, comparisons_of, choices_of, pieces_of}
 use Rattle.jt_step.specs.State.{State, Out, Gave, Returned, Broke, Continued, Faulted, Unfit, Step, bind, ask, turn, renew, renew_with, most_calls, Given, given}
 use Rattle.jt_step.specs.State as state
 use Rattle.jt_step.specs.Values.{operated, unary_of, compared_by, shown, shown_with}
-use Rattle.jt_step.specs.Meaning.{gives, known, assigned, defined, test, holds, proceed, looped, left, Later, whole, range, bounds, turns_from, call, run, run_operands, run_comparisons, run_connection, run_choices, run_all, run_arguments, run_pieces, go, ended}
-use Rattle.jt_step.specs.Tasks.{reply_of_note}
+use Rattle.jt_step.specs.Meaning.{gives, synced, noticed, wait_all, unless_failed, assigned, defined, test, holds, looped, left, Later, whole, range, bounds, turns_from, call, run, run_operands, run_comparisons, run_connection, run_choices, run_all, run_arguments, run_pieces, go, ended}
 use Rattle.jt_step.specs.declared.frame.Frame.{Frame}
 use Rattle.jt_step.specs.declared.frame.Frame.TheVariants as frame
+use Rattle.jt_step.specs.declared.frame.Exit.{Exit}
+use Rattle.jt_step.specs.declared.frame.Exit.TheVariants as exit
 use Rattle.jt_step.specs.declared.frame.Loop.{Loop}
 use Rattle.jt_step.specs.declared.frame.Loop.TheVariants as loop
 use Rattle.jt_step.specs.declared.machine.Machine.{Machine}
@@ -33,12 +34,27 @@ use Rattle.jt_step.specs.declared.mode.Mode.TheVariants as mode
 
 -- the state of a machine before these replies
 abbrev pub state_of : Machine → List Reply → State
-state_of m rs = record { variables = m.variables; constants = m.constants; replies = rs; turns = m.turns; open_calls = m.open_calls }
+state_of m rs = record {
+  path = m.path;
+  variables = m.variables;
+  constants = m.constants;
+  replies = rs;
+  turns = m.turns;
+  open_calls = m.open_calls;
+  spawned = m.spawned;
+  awaited = m.awaited;
+  stream = m.stream;
+}
 
 -- the further turns of a loop once the body has ended
 abbrev pub later_of : Loop → Later
 later_of (loop.While first count c b) = whole (plan.while first count (plan_of c.now) (plan_of b.now))
 later_of (loop.Range first count b i last) = range first count (plan_of b.now) (i +ℤ pos 1) last
+
+-- how a part ended
+abbrev pub exits : Exit → Value → Step
+exits exit.Value v s = Gave v s
+exits exit.Return v s = Returned v s
 
 -- the plain data of what stands in a slice
 abbrev pub operands_in : List (BinaryOperator × Code) → Operands
@@ -53,25 +69,25 @@ choices_in arms = choices_of (map arm_plan arms)
 abbrev pub pieces_in : List Piece → Pieces
 pieces_in ps = pieces_of (map piece_plan ps)
 
-module _ (functions : List BodyPlan) where
+module _ (program : ProgramPlan) where
   -- a tree, by what its parts do
   abbrev pub does : Plan → Step
-  does = run functions (go functions)
+  does = run program (go program)
 
   abbrev pub does_operands : Value → Operands → Step
-  does_operands = run_operands functions (go functions)
+  does_operands = run_operands program (go program)
 
   abbrev pub does_comparisons : Value → Comparisons → Step
-  does_comparisons = run_comparisons functions (go functions)
+  does_comparisons = run_comparisons program (go program)
 
   -- the turn of a loop that begins next
   abbrev pub again : Loop → Step
-  again (loop.While first count c b) = turn (λ s. looped (go functions (later_of (loop.While first count c b))) (does (plan_of b.now) (renew first count s)))
-  again (loop.Range first count b i last) = turn (λ s. looped (go functions (later_of (loop.Range first count b i last))) (does (plan_of b.now) (renew_with first count (Int i) s)))
+  again (loop.While first count c b) = turn (λ s. looped (go program (later_of (loop.While first count c b))) (does (plan_of b.now) (renew first count s)))
+  again (loop.Range first count b i last) = turn (λ s. looped (go program (later_of (loop.Range first count b i last))) (does (plan_of b.now) (renew_with first count (Int i) s)))
 
   -- a call that begins next
   abbrev pub calls : ℕ → List Value → Step
-  calls f = call (go functions) (slice_get functions f)
+  calls f = call (go program) (slice_get program.functions f)
 
   -- what a frame makes of how its part ends
   abbrev pub after : Frame → Out → Out
@@ -82,16 +98,18 @@ module _ (functions : List BodyPlan) where
   after (frame.Operand b v es) o = bind o (λ w s. bind (gives (operated b v w) s) (λ x. does_operands x (operands_in es.now)))
   after (frame.Comparisons es) o = bind o (λ v. does_comparisons v (comparisons_in es.now))
   after (frame.Compared c v es) o = bind o (λ w. holds (compared_by c v w) (does_comparisons w (comparisons_in es.now)))
-  after (frame.Connection c es) o = bind o (λ v. run_connection functions (go functions) c v (plans es.now))
-  after (frame.Choice e arms otherwise) o = bind o (λ v. test v (does (plan_of e.now)) (run_choices functions (go functions) (choices_in arms.now) (does (plan_of otherwise.now))))
-  after (frame.Rest es) o = bind o (λ v. run_all functions (go functions) v (plans es.now))
+  after (frame.Connection c es) o = bind o (λ v. run_connection program (go program) c v (plans es.now))
+  after (frame.Choice e arms otherwise) o = bind o (λ v. test v (does (plan_of e.now)) (run_choices program (go program) (choices_in arms.now) (does (plan_of otherwise.now))))
+  after (frame.Rest es) o = bind o (λ v. run_all program (go program) v (plans es.now))
   after (frame.Condition first count c b) o = bind o (λ v. test v (again (loop.While first count c b)) (Gave Nothing))
-  after (frame.Low first count high b) o = bind o (λ v s. bind (does (plan_of high.now) s) (bounds (turns_from (go functions) first count (plan_of b.now) (does (plan_of b.now))) v))
-  after (frame.High first count low b) o = bind o (bounds (turns_from (go functions) first count (plan_of b.now) (does (plan_of b.now))) low)
-  after (frame.Loop l) o = looped (go functions (later_of l)) o
-  after (frame.Arguments f es vs) o = bind o (λ v. run_arguments functions (go functions) f (vs ++ v ∷ []) (plans es.now))
-  after (frame.Pieces ps text) o = bind o (λ v. run_pieces functions (go functions) (shown_with text (shown v)) (pieces_in ps.now))
+  after (frame.Low first count high b) o = bind o (λ v s. bind (does (plan_of high.now) s) (bounds (turns_from (go program) first count (plan_of b.now) (does (plan_of b.now))) v))
+  after (frame.High first count low b) o = bind o (bounds (turns_from (go program) first count (plan_of b.now) (does (plan_of b.now))) low)
+  after (frame.Loop l) o = looped (go program (later_of l)) o
+  after (frame.Arguments f es vs) o = bind o (λ v. run_arguments program (go program) f (vs ++ v ∷ []) (plans es.now))
+  after (frame.Pieces ps text) o = bind o (λ v. run_pieces program (go program) (shown_with text (shown v)) (pieces_in ps.now))
   after (frame.Call variables n) o = left variables n o
+  after (frame.Sync outer) o = synced outer o
+  after (frame.Waiting w) o = noticed w.fault (λ f. wait_all (drop w.next w.paths) f (unless_failed (exits w.exit w.value))) o
   after frame.Return o = bind o Returned
 
   -- the frames in order, the last one first
@@ -105,7 +123,7 @@ module _ (functions : List BodyPlan) where
 
   -- what is left to do at a mode, with these frames
   abbrev pub doing : List Frame → Mode → Step
-  doing fs (mode.Begins e) s = bind (ask op.Begin None s) (λ v s. resume fs (go functions (whole (plan_of e.now)) s))
+  doing fs (mode.Begins e) s = bind (ask op.Begin None s) (λ v s. resume fs (go program (whole (plan_of e.now)) s))
   doing fs (mode.Eval e) s = resume fs (does (plan_of e.now) s)
   doing fs (mode.Gave v) s = resume fs (Gave v s)
   doing fs (mode.Returned v) s = resume fs (Returned v s)
@@ -114,7 +132,7 @@ module _ (functions : List BodyPlan) where
   doing fs (mode.Faulted f) s = resume fs (Faulted f s)
   doing fs (mode.Enter f vs) s = resume fs (calls f vs s)
   doing fs (mode.Again l) s = resume fs (again l s)
-  doing fs (mode.Waits o) s = resume fs (ask o None s)
+  doing fs (mode.Waits o start) s = resume fs (ask o start s)
   doing fs (mode.Ending v) s = ask (op.End v) None s
   doing fs (mode.Failing f) s = ask (op.Fail f) None s
   doing fs mode.Over s = Gave Nothing s
@@ -144,6 +162,8 @@ abbrev mutual
   weight (plan.call f es) = plans_weight es + 1
   weight (plan.print ps) = pieces_weight ps + 2
   weight (plan.error t) = 2
+  weight (plan.spawn body slots awaits) = 2
+  weight (plan.sync e) = weight e + 4
   weight (plan.return e) = weight e + 2
   weight plan.break = 2
   weight plan.continue = 2
@@ -192,6 +212,8 @@ frame_weight (frame.Loop l) = loop_weight l
 frame_weight (frame.Arguments f es vs) = plans_weight (plans es.now)
 frame_weight (frame.Pieces ps text) = pieces_weight (pieces_in ps.now)
 frame_weight (frame.Call variables n) = 1
+frame_weight (frame.Sync outer) = 2
+frame_weight (frame.Waiting w) = 1
 frame_weight frame.Return = 1
 
 abbrev pub frames_weight : List Frame → ℕ
@@ -208,7 +230,7 @@ mode_weight mode.Continued = 1
 mode_weight (mode.Faulted f) = 1
 mode_weight (mode.Enter f vs) = 2
 mode_weight (mode.Again l) = 2
-mode_weight (mode.Waits o) = 0
+mode_weight (mode.Waits o start) = 0
 mode_weight (mode.Ending v) = 0
 mode_weight (mode.Failing f) = 0
 mode_weight mode.Over = 0
@@ -224,22 +246,22 @@ has_body None = false
 has_body (Some b) = true
 
 -- a turn begins next
-abbrev pub begins : List BodyPlan → Machine → Mode → Bool
-begins functions m (mode.Enter f vs) = has_body (slice_get functions f) && (nat_lt 0 m.turns && nat_lt m.open_calls most_calls)
-begins functions m (mode.Again l) = nat_lt 0 m.turns
-begins functions m _ = false
+abbrev pub begins : ProgramPlan → Machine → Mode → Bool
+begins program m (mode.Enter f vs) = has_body (slice_get program.functions f) && (nat_lt 0 m.turns && nat_lt m.open_calls most_calls)
+begins program m (mode.Again l) = nat_lt 0 m.turns
+begins program m _ = false
 
 -- nothing moves but by a reply or by a turn
-abbrev pub rests : List BodyPlan → Machine → Mode → Bool
-rests functions m (mode.Begins e) = true
-rests functions m (mode.Waits o) = true
-rests functions m (mode.Ending v) = true
-rests functions m (mode.Failing f) = true
-rests functions m mode.Over = true
-rests functions m mode.Unfit = true
-rests functions m (mode.Enter f vs) = begins functions m (mode.Enter f vs)
-rests functions m (mode.Again l) = begins functions m (mode.Again l)
-rests functions m _ = false
+abbrev pub rests : ProgramPlan → Machine → Mode → Bool
+rests program m (mode.Begins e) = true
+rests program m (mode.Waits o start) = true
+rests program m (mode.Ending v) = true
+rests program m (mode.Failing f) = true
+rests program m mode.Over = true
+rests program m mode.Unfit = true
+rests program m (mode.Enter f vs) = begins program m (mode.Enter f vs)
+rests program m (mode.Again l) = begins program m (mode.Again l)
+rests program m _ = false
 
 -- why a call can't begin
 abbrev pub refusal : Option BodyPlan → ℕ → Fault
@@ -250,7 +272,7 @@ refusal (Some b) (suc t) = StackLimit
 -- an operation waits for its reply
 abbrev pub waits : Mode → Bool
 waits (mode.Begins e) = true
-waits (mode.Waits o) = true
+waits (mode.Waits o start) = true
 waits (mode.Ending v) = true
 waits (mode.Failing f) = true
 waits _ = false
@@ -258,27 +280,27 @@ waits _ = false
 -- ---- what moves keep
 
 -- one machine does what the other does, with less work
-pub record Follows (functions : List BodyPlan) (m : Machine) (md : Mode) (m' : Machine) (md' : Mode) : Type 0 where
-  pub same : (rs : List Reply) → at functions m' md' rs ≡ at functions m md rs
+pub record Follows (program : ProgramPlan) (m : Machine) (md : Mode) (m' : Machine) (md' : Mode) : Type 0 where
+  pub same : (rs : List Reply) → at program m' md' rs ≡ at program m md rs
   pub less : work m' md' < work m md
   pub turns : m'.turns ≡ m.turns
 
 -- one machine does what the other does once this frame has had the end of its part
-pub record Hands (functions : List BodyPlan) (m : Machine) (f : Frame) (o : Step) (m' : Machine) (md' : Mode) : Type 0 where
-  pub same : (rs : List Reply) → at functions m' md' rs ≡ resume functions m.frames.items (after functions f (o (state_of m rs)))
+pub record Hands (program : ProgramPlan) (m : Machine) (f : Frame) (o : Step) (m' : Machine) (md' : Mode) : Type 0 where
+  pub same : (rs : List Reply) → at program m' md' rs ≡ resume program m.frames.items (after program f (o (state_of m rs)))
   pub less : work m' md' < 1 + frame_weight f + frames_weight m.frames.items
   pub turns : m'.turns ≡ m.turns
 
 -- the same after one turn
-pub record Turns (functions : List BodyPlan) (m : Machine) (md : Mode) (m' : Machine) (md' : Mode) : Type 0 where
-  pub same : (rs : List Reply) → at functions m' md' rs ≡ at functions m md rs
+pub record Turns (program : ProgramPlan) (m : Machine) (md : Mode) (m' : Machine) (md' : Mode) : Type 0 where
+  pub same : (rs : List Reply) → at program m' md' rs ≡ at program m md rs
   pub turns : m'.turns + 1 ≡ m.turns
 
 -- the same, as far as it goes without a turn or a reply
-pub record Settles (functions : List BodyPlan) (m : Machine) (md : Mode) (m' : Machine) (md' : Mode) : Type 0 where
-  pub same : (rs : List Reply) → at functions m' md' rs ≡ at functions m md rs
+pub record Settles (program : ProgramPlan) (m : Machine) (md : Mode) (m' : Machine) (md' : Mode) : Type 0 where
+  pub same : (rs : List Reply) → at program m' md' rs ≡ at program m md rs
   pub turns : m'.turns ≡ m.turns
-  pub rested : rests functions m' md' ≡ true
+  pub rested : rests program m' md' ≡ true
 
 -- ---- replies
 
@@ -298,21 +320,21 @@ begun_by e r = mode.Unfit
 -- the mode after a reply
 abbrev pub taken : Mode → Reply → Mode
 taken (mode.Begins e) r = begun_by e r
-taken (mode.Waits o) r = given_mode (given o r)
+taken (mode.Waits o start) r = given_mode (given o r)
 taken (mode.Ending v) r = over_by r
 taken (mode.Failing f) r = over_by r
 taken md r = md
 
 -- the replies that are left
 abbrev pub unused : List Note → ℕ → List Reply
-unused log used = map reply_of_note (drop used log)
+unused log used = map note_reply (drop used log)
 
 -- the same after at most so many turns, and as far as it goes with these replies
-pub record Runs (functions : List BodyPlan) (log : List Note) (turns : ℕ) (m : Machine) (used : ℕ) (md : Mode) (m' : Machine) (used' : ℕ) (md' : Mode) : Type 0 where
-  pub same : (rs : List Reply) → at functions m' md' (unused log used' ++ rs) ≡ at functions m md (unused log used ++ rs)
+pub record Runs (program : ProgramPlan) (log : List Note) (turns : ℕ) (m : Machine) (used : ℕ) (md : Mode) (m' : Machine) (used' : ℕ) (md' : Mode) : Type 0 where
+  pub same : (rs : List Reply) → at program m' md' (unused log used' ++ rs) ≡ at program m md (unused log used ++ rs)
   pub within : used' ≤ length log
-  pub rested : rests functions m' md' ≡ true
+  pub rested : rests program m' md' ≡ true
   pub fewer : m'.turns ≤ m.turns
   pub most : m.turns ≤ m'.turns + turns
-  pub spent : begins functions m' md' ≡ true → m'.turns + turns ≡ m.turns
-  pub all : begins functions m' md' ≡ false → waits md' ≡ true → used' ≡ length log
+  pub spent : begins program m' md' ≡ true → m'.turns + turns ≡ m.turns
+  pub all : begins program m' md' ≡ false → waits md' ≡ true → used' ≡ length log

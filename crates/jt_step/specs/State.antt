@@ -1,23 +1,28 @@
 -- What a part of a task goes by, and how it ends.
 use Rattle.std.specs.Prelude.{ℕ, zero, suc, ◌+◌, List, [], ◌∷◌, ◌++◌, Option, Some, None, Bool, true, false, take, replicate, slice_set, nat_lt}
 use Rattle.jt_base.specs.declared.value.Value.{Value}
-use Rattle.jt_base.specs.declared.value.Value.TheVariants.{Nothing}
+use Rattle.jt_base.specs.declared.value.Value.TheVariants.{Nothing, Task}
 use Rattle.jt_base.specs.declared.operation.Fault.{Fault}
-use Rattle.jt_base.specs.declared.operation.Fault.TheVariants.{TurnLimit, StackLimit}
+use Rattle.jt_base.specs.declared.operation.Fault.TheVariants.{TurnLimit, StackLimit, TaskFailed}
 use Rattle.jt_base.specs.declared.operation.Op.{Op}
-use Rattle.jt_base.specs.declared.operation.Op.TheVariants.{Begin, End, Fail, Print}
+use Rattle.jt_base.specs.declared.operation.Op.TheVariants.{Begin, End, Fail, Spawn, Fetch, Wait, Yield, Print}
 use Rattle.jt_base.specs.declared.operation.Reply.{Reply}
 use Rattle.jt_base.specs.declared.operation.Reply.TheVariants as reply
 use Rattle.jt_step.specs.declared.start.Start.{Start}
 
--- a task inside a tree: the variables of the open call, the constants, the replies that are not yet
--- taken, the turns that are left, and how many calls are open
+-- a task inside a tree: its path, the variables of the open call, the constants, the replies that are
+-- not yet taken, the turns that are left, how many calls are open, how many tasks it has made, those
+-- that the innermost `@sync` waits for, and the words of its random stream
 pub record State : Type 0 where
+  pub path : List ℕ
   pub variables : List (Option Value)
   pub constants : List (Option Value)
   pub replies : List Reply
   pub turns : ℕ
   pub open_calls : ℕ
+  pub spawned : ℕ
+  pub awaited : List (List ℕ)
+  pub stream : List ℕ
 
 -- how a part of a task ends
 pub data Out : Type 0 where
@@ -73,6 +78,12 @@ given Begin reply.Ok = value Nothing
 given (End v) reply.Ok = value Nothing
 given (Fail f) reply.Ok = value Nothing
 given (Print text) reply.Ok = value Nothing
+given (Spawn path how) reply.Ok = value (Task path)
+given (Fetch path) (reply.Val v) = value v
+given (Fetch path) reply.Failed = fault (TaskFailed path)
+given (Wait path) reply.Ok = value Nothing
+given (Wait path) reply.Failed = fault (TaskFailed path)
+given Yield reply.Ok = value Nothing
 given op r = unfit
 
 abbrev pub answered : Given → Step

@@ -1,13 +1,14 @@
 -- A task's run and the meaning.
-use Rattle.std.specs.Prelude.{◌≡◌, ℕ, ◌-◌, ◌≤◌, List, ◌++◌, Option, Some, None, map, length, vec_capacity, false}
+use Rattle.std.specs.Prelude.{◌≡◌, ◌-◌, ◌≤◌, List, ◌++◌, Option, Some, None, map, length, vec_capacity, false}
 use denote.Bor.{Bor}
 use Rattle.jt_base.specs.declared.operation.Op.TheVariants as op
 use Rattle.jt_base.specs.declared.operation.Reply.{Reply}
 use Rattle.jt_base.specs.declared.value.Value.TheVariants.{Int}
-use Rattle.jt_laws.specs.Coming.{Next}
-use Rattle.jt_laws.specs.Coming as next
+use Rattle.jt_base.specs.Coming.{Next}
+use Rattle.jt_base.specs.Jobs.{note_reply}
+use Rattle.jt_base.specs.Coming as next
 use Rattle.jt_program.specs.declared.code.Code.{Code}
-use Rattle.jt_program.specs.View.{body_plan, program_plan}
+use Rattle.jt_program.specs.View.{program_plan}
 use Rattle.jt_step.specs.declared.frame.Loop.{Loop}
 use Rattle.jt_step.specs.declared.frame.Loop.TheVariants as loop
 use Rattle.jt_step.specs.declared.mode.Mode.{Mode}
@@ -17,7 +18,7 @@ use Rattle.jt_step.specs.declared.task.TaskRun.TheInside.{Inside}
 use Rattle.jt_step.specs.State.{State, renew, renew_with}
 use Rattle.jt_step.specs.Meaning.{task}
 use Rattle.jt_step.specs.Stack.{at, unused}
-use Rattle.jt_step.specs.Tasks.{Task, reply_of_note}
+use Rattle.jt_step.specs.Tasks.{Task}
 
 -- ---- turns
 
@@ -36,7 +37,8 @@ turned (loop.Range first count b i last) s = renew_with first count (Int i) s
 -- what an advance that stops here tells
 abbrev pub mode_tells : Mode → Option (Next Start)
 mode_tells (mode.Begins e) = Some (next.Needs op.Begin)
-mode_tells (mode.Waits o) = Some (next.Needs o)
+mode_tells (mode.Waits o None) = Some (next.Needs o)
+mode_tells (mode.Waits o (Some start)) = Some (next.Spawns o start)
 mode_tells (mode.Ending v) = Some (next.Needs (op.End v))
 mode_tells (mode.Failing f) = Some (next.Needs (op.Fail f))
 mode_tells mode.Over = Some next.Over
@@ -44,17 +46,18 @@ mode_tells _ = None
 
 abbrev pub seen : Inside → Task
 seen t = record {
-  program = program_plan t.program.now;
-  limit = t.limit;
+  run = record { program = program_plan t.program.now; sizes = t.sizes; limits = t.limits };
+  path = t.path;
   start = t.start;
+  seat = record { pool = t.pool; bound = t.bound };
   log = t.log.items;
   room = vec_capacity t.log - length t.log.items;
-  taken = t.limit - t.machine.turns;
+  taken = t.limits.turns - t.machine.turns;
   failed = t.failed;
 }
 
 -- the machine is where the meaning is after the notes that it has had
 pub record Holds (t : Inside) : Type 0 where
-  pub same : t.failed ≡ false → (rs : List Reply) → at (map body_plan t.program.now.functions) t.machine t.mode (unused t.log.items t.used ++ rs) ≡ task (program_plan t.program.now) t.limit t.start.code (map reply_of_note t.log.items ++ rs)
+  pub same : t.failed ≡ false → (rs : List Reply) → at (program_plan t.program.now) t.machine t.mode (unused t.log.items t.used ++ rs) ≡ task (program_plan t.program.now) t.limits.turns t.path t.start (map note_reply t.log.items ++ rs)
   pub within : t.used ≤ length t.log.items
-  pub few : t.failed ≡ false → t.machine.turns ≤ t.limit
+  pub few : t.failed ≡ false → t.machine.turns ≤ t.limits.turns

@@ -1,5 +1,5 @@
 -- What operators and functions of the language make of values.
-use Rattle.std.specs.Prelude.{ℕ, ℤ, pos, neg_ℤ, ◌+ℤ◌, ◌-ℤ◌, ◌*ℤ◌, List, [], ◌∷◌, ◌++◌, Option, Some, None, Bool, true, false, not, ◌&&◌, ◌||◌, if◌then◌else◌, Result, Ok, Err, int_lt, int_le, nat_eq, length}
+use Rattle.std.specs.Prelude.{ℕ, ℤ, neg_ℤ, ◌+ℤ◌, ◌-ℤ◌, ◌*ℤ◌, List, [], ◌∷◌, ◌++◌, Option, Some, None, Bool, true, false, not, ◌&&◌, ◌||◌, if◌then◌else◌, Result, Ok, Err, int_lt, int_le, nat_eq, length}
 use Rattle.std.specs.Fmt.{signed_decimal}
 use Rattle.std.specs.Str.Lossy.{utf8_valid_len}
 use Rattle.jt_base.specs.declared.value.Value.{Value}

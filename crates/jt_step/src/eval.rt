@@ -1,8 +1,8 @@
 //! How a machine begins a part.
 
-ghost use Rattle.std.specs.Prelude.{◌≡◌, ◌+◌, List, IfOk, slice_get};
-ghost use Rattle.jt_program.specs.Plan.{BodyPlan};
-ghost use Rattle.jt_program.specs.View.{plan_of};
+ghost use Rattle.std.specs.Prelude.{◌≡◌, ◌+◌, IfOk, slice_get};
+ghost use Rattle.jt_program.specs.Plan.{ProgramPlan};
+ghost use Rattle.jt_program.specs.View.{plan_of, program_plan};
 ghost use Rattle.jt_step.specs.Moves.{Does, known_mode};
 ghost use Rattle.jt_step.specs.State.{State};
 ghost use Rattle.jt_step.specs.Stack.{Follows, after, does, frame_weight, weight};
@@ -13,14 +13,19 @@ use crate::machine::Machine;
 use crate::mode::Mode;
 use crate::value::{error_fault, literal_value};
 use jt_base::{Fault, OutOfMemory, Value};
-use jt_program::Code;
+use jt_program::{Code, Program};
 use sqlite_items::{Items, at};
 use std::alloc::Global;
 
 impl<'p> Machine<'p> {
     /// Begins a part.
-    pub(crate) fn eval(&mut self, alloc: Global, e: &'p Code) -> Result<Mode<'p>, OutOfMemory>
-        ensures { IfOk result (λ m. (functions : List BodyPlan) → Follows functions self.old (Mode.Eval e.entry) self.new m) }
+    pub(crate) fn eval(
+        &mut self,
+        alloc: Global,
+        program: &'p Program,
+        e: &'p Code,
+    ) -> Result<Mode<'p>, OutOfMemory>
+        ensures { IfOk result (λ m. Follows (program_plan program.now) self.old (Mode.Eval e.entry) self.new m) }
     {
         match e {
             Code::Literal(literal) => Ok(Mode::Gave(literal_value(*literal))),
@@ -49,12 +54,15 @@ impl<'p> Machine<'p> {
                 low.get(),
             )?),
             Code::Call(callee, es) => Ok(self.next_argument(
+                alloc,
                 *callee,
                 Items::new(alloc),
                 es.as_slice(),
             )?),
             Code::Print(pieces) => Ok(self.next_piece(alloc, pieces.as_slice(), Line::new(alloc))?),
             Code::Error(text) => Ok(Mode::Faulted(error_fault(alloc, text.as_slice())?)),
+            Code::Spawn(task) => Ok(self.fork(alloc, program, task)?),
+            Code::Sync(e) => Ok(self.begin_sync(alloc, e.get())?),
             Code::Return(e) => Ok(self.begin_with(Frame::Return, e.get())?),
             Code::Break => Ok(Mode::Broke),
             Code::Continue => Ok(Mode::Continued),
@@ -67,7 +75,7 @@ impl<'p> Machine<'p> {
         frame: Frame<'p>,
         e: &'p Code,
     ) -> Result<Mode<'p>, OutOfMemory>
-        ensures { IfOk result (λ m. (functions : List BodyPlan) → Does functions self.old (λ (s : State). after functions frame.entry (does functions (plan_of e.entry.now) s)) (weight (plan_of e.entry.now) + frame_weight frame.entry + 1) self.new m) }
+        ensures { IfOk result (λ m. (program : ProgramPlan) → Does program self.old (λ (s : State). after program frame.entry (does program (plan_of e.entry.now) s)) (weight (plan_of e.entry.now) + frame_weight frame.entry + 1) self.new m) }
     {
         self.frames.push(frame)?;
         Ok(Mode::Eval(e))

@@ -1,7 +1,7 @@
 //! What is left to do once a part has ended.
 
 use crate::line::Line;
-use jt_base::Value;
+use jt_base::{Fault, Path, Value};
 use jt_program::{Arm, BinaryOperator, Callee, Code, Piece};
 use jt_syntax::{ComparisonOperator, Connective, UnaryOperator};
 use sqlite_items::Items;
@@ -14,6 +14,25 @@ pub enum Loop<'p> {
     While(usize, usize, &'p Code, &'p Code),
     /// A body, the number of this turn and the last one.
     Range(usize, usize, &'p Code, i64, i64),
+}
+
+/// How a part ended: with a value, or with the value of the open call.
+#[derive(Clone, Copy)]
+pub enum Exit {
+    Value,
+    Return,
+}
+
+/// The waits at the end of an `@sync`: the tasks in the order of their making, the place of the first
+/// that is not waited for yet, the fault of the first that failed, and how the part ended, with which
+/// value.
+#[derive(Drop)]
+pub struct Waits {
+    pub paths: Items<Path>,
+    pub next: usize,
+    pub fault: Option<Fault>,
+    pub exit: Exit,
+    pub value: Value,
 }
 
 /// What is left to do once a part has ended.
@@ -51,5 +70,9 @@ pub enum Frame<'p> {
     Pieces(&'p [Piece], Line),
     /// A call: the caller's variables, and how many calls were open.
     Call(Items<Option<Value>>, u32),
+    /// The part of an `@sync`: the tasks for which the one round it waits.
+    Sync(Items<Path>),
+    /// A wait at the end of an `@sync`, and what follows it.
+    Waiting(Waits),
     Return,
 }

@@ -2,13 +2,13 @@
 
 ghost use Rattle.std.specs.Prelude.{◌≡◌, ◌<◌, ◌+◌, ◌+ℤ◌, pos, int_lt, List, IfOk};
 ghost use Rattle.jt_base.specs.declared.operation.Reply.{Reply};
-ghost use Rattle.jt_program.specs.Plan.{BodyPlan};
+ghost use Rattle.jt_program.specs.Plan.{ProgramPlan};
 ghost use Rattle.jt_step.specs.Meaning.{go};
 ghost use Rattle.jt_step.specs.Moves.{bounds_mode, range_mode, turn_mode};
 ghost use Rattle.jt_step.specs.Stack.{Follows, Hands, at, frames_weight, later_of, loop_weight, resume, state_of, work};
 ghost use Rattle.jt_step.specs.State.{Gave};
 
-use crate::frame::{Frame, Loop};
+use crate::frame::{Exit, Frame, Loop};
 use crate::machine::Machine;
 use crate::mode::Mode;
 use crate::row::valued;
@@ -22,7 +22,7 @@ use std::alloc::Global;
 impl<'p> Machine<'p> {
     /// A part gave a value.
     pub(crate) fn give(&mut self, alloc: Global, v: Value) -> Result<Mode<'p>, OutOfMemory>
-        ensures { IfOk result (λ m. (functions : List BodyPlan) → Follows functions self.old (Mode.Gave v) self.new m) }
+        ensures { IfOk result (λ m. (program : ProgramPlan) → Follows program self.old (Mode.Gave v) self.new m) }
     {
         match self.frames.pop() {
             None => Ok(Mode::Ending(v)),
@@ -37,7 +37,7 @@ impl<'p> Machine<'p> {
         frame: Frame<'p>,
         v: Value,
     ) -> Result<Mode<'p>, OutOfMemory>
-        ensures { IfOk result (λ m. (functions : List BodyPlan) → Hands functions self.old frame.entry (Gave v) self.new m) }
+        ensures { IfOk result (λ m. (program : ProgramPlan) → Hands program self.old frame.entry (Gave v) self.new m) }
     {
         match frame {
             Frame::Assign(slot) => {
@@ -68,7 +68,7 @@ impl<'p> Machine<'p> {
             Frame::Loop(l) => Ok(self.go_on(l)?),
             Frame::Arguments(callee, es, mut vs) => {
                 vs.push(v)?;
-                Ok(self.next_argument(callee, vs, es)?)
+                Ok(self.next_argument(alloc, callee, vs, es)?)
             }
             Frame::Pieces(pieces, mut line) => {
                 line.push_value(&v)?;
@@ -79,6 +79,8 @@ impl<'p> Machine<'p> {
                 self.open_calls = open_calls;
                 Ok(Mode::Gave(v))
             }
+            Frame::Sync(outer) => Ok(self.end_sync(alloc, outer, Exit::Value, v)?),
+            Frame::Waiting(waits) => Ok(self.next_wait(alloc, waits)?),
             Frame::Return => Ok(Mode::Returned(v)),
         }
     }
@@ -91,7 +93,7 @@ impl<'p> Machine<'p> {
         w: Value,
         es: &'p [(BinaryOperator, Code)],
     ) -> Result<Mode<'p>, OutOfMemory>
-        ensures { IfOk result (λ m. (functions : List BodyPlan) → Hands functions self.old (Frame.Operand operator v es.entry) (Gave w) self.new m) }
+        ensures { IfOk result (λ m. (program : ProgramPlan) → Hands program self.old (Frame.Operand operator v es.entry) (Gave w) self.new m) }
     {
         match operate(operator, &v, &w) {
             Ok(value) => Ok(self.next_operand(value, es)?),
@@ -107,7 +109,7 @@ impl<'p> Machine<'p> {
         w: Value,
         es: &'p [(ComparisonOperator, Code)],
     ) -> Result<Mode<'p>, OutOfMemory>
-        ensures { IfOk result (λ m. (functions : List BodyPlan) → Hands functions self.old (Frame.Compared operator v es.entry) (Gave w) self.new m) }
+        ensures { IfOk result (λ m. (program : ProgramPlan) → Hands program self.old (Frame.Compared operator v es.entry) (Gave w) self.new m) }
     {
         match compare(operator, &v, &w) {
             Some(true) => Ok(self.next_comparison(w, es)?),
@@ -124,7 +126,7 @@ impl<'p> Machine<'p> {
         arms: &'p [Arm],
         otherwise: &'p Code,
     ) -> Result<Mode<'p>, OutOfMemory>
-        ensures { IfOk result (λ m. (functions : List BodyPlan) → Hands functions self.old (Frame.Choice e.entry arms.entry otherwise.entry) (Gave v) self.new m) }
+        ensures { IfOk result (λ m. (program : ProgramPlan) → Hands program self.old (Frame.Choice e.entry arms.entry otherwise.entry) (Gave v) self.new m) }
     {
         match v {
             Value::Flag(true) => Ok(Mode::Eval(e)),
@@ -135,7 +137,7 @@ impl<'p> Machine<'p> {
 
     /// Goes on with a loop whose body has ended.
     pub(crate) fn go_on(&mut self, l: Loop<'p>) -> Result<Mode<'p>, OutOfMemory>
-        ensures same { IfOk result (λ m. (functions : List BodyPlan) (rs : List Reply) → at functions self.new m rs ≡ resume functions self.old.frames.items (go functions (later_of l.entry) (state_of self.old rs))) }
+        ensures same { IfOk result (λ m. (program : ProgramPlan) (rs : List Reply) → at program self.new m rs ≡ resume program self.old.frames.items (go program (later_of l.entry) (state_of self.old rs))) }
         ensures less { IfOk result (λ m. work self.new m < 1 + loop_weight l.entry + frames_weight self.old.frames.items) }
         ensures turns { IfOk result (λ m. self.new.turns ≡ self.old.turns) }
     {

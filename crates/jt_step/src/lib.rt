@@ -2,6 +2,7 @@
 #![tactic(auto)]
 
 mod eval;
+mod fork;
 mod frame;
 mod give;
 mod line;
@@ -11,6 +12,7 @@ mod print;
 mod row;
 mod run;
 mod start;
+mod sync;
 mod task;
 #[cfg(test)]
 mod tests;

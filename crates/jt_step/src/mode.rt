@@ -5,6 +5,7 @@ ghost use Rattle.jt_step.specs.Task.{mode_tells};
 ghost use Rattle.jt_step.specs.Tasks.{told};
 
 use crate::frame::Loop;
+use crate::start::Start;
 use crate::task::Advance;
 use jt_base::{Fault, Op, OutOfMemory, Value};
 use jt_program::Code;
@@ -26,8 +27,8 @@ pub enum Mode<'p> {
     Enter(usize, Items<Value>),
     /// Before a turn of a loop.
     Again(Loop<'p>),
-    /// An operation waits for its reply.
-    Waits(Boxed<Op>),
+    /// An operation waits for its reply; a spawn with the child's start.
+    Waits(Boxed<Op>, Option<Boxed<Start>>),
     Ending(Value),
     Failing(Fault),
     Over,
@@ -42,7 +43,11 @@ impl Mode<'_> {
     {
         match self {
             Mode::Begins(_) => Ok(Advance::Needs(Op::Begin)),
-            Mode::Waits(op) => Ok(Advance::Needs(op.get().copy(alloc)?)),
+            Mode::Waits(op, None) => Ok(Advance::Needs(op.get().copy(alloc)?)),
+            Mode::Waits(op, Some(start)) => Ok(Advance::Spawns(
+                op.get().copy(alloc)?,
+                start.get().copy(alloc)?,
+            )),
             Mode::Ending(v) => Ok(Advance::Needs(Op::End(v.copy()))),
             Mode::Failing(fault) => Ok(Advance::Needs(Op::Fail(fault.copy(alloc)?))),
             Mode::Over => Ok(Advance::Over),

@@ -1,19 +1,19 @@
 //! How a machine prints.
 
-ghost use Rattle.std.specs.Prelude.{◌≡◌, ◌+◌, ◌≤◌, List, IfOk};
-ghost use Rattle.jt_program.specs.Plan.{BodyPlan};
+ghost use Rattle.std.specs.Prelude.{◌≡◌, ◌+◌, ◌≤◌, IfOk};
+ghost use Rattle.jt_program.specs.Plan.{ProgramPlan};
 ghost use Rattle.jt_step.specs.Meaning.{go, run_pieces};
 ghost use Rattle.jt_step.specs.Moves.{Does, from_value};
 ghost use Rattle.jt_step.specs.State.{State};
 ghost use Rattle.jt_step.specs.Stack.{pieces_in, pieces_weight};
 
+use crate::fork::waits;
 use crate::frame::Frame;
 use crate::line::Line;
 use crate::machine::Machine;
 use crate::mode::Mode;
 use jt_base::{Fault, Op, OutOfMemory};
 use jt_program::{Code, Piece};
-use sqlite_items::Boxed;
 use std::alloc::Global;
 
 impl<'p> Machine<'p> {
@@ -25,7 +25,7 @@ impl<'p> Machine<'p> {
         pieces: &'p [Piece],
         line: Line,
     ) -> Result<Mode<'p>, OutOfMemory>
-        ensures { IfOk result (λ m. (functions : List BodyPlan) → Does functions self.old (run_pieces functions (go functions) line (pieces_in pieces.now)) (pieces_weight (pieces_in pieces.now) + 1) self.new m) }
+        ensures { IfOk result (λ m. (program : ProgramPlan) → Does program self.old (run_pieces program (go program) line (pieces_in pieces.now)) (pieces_weight (pieces_in pieces.now) + 1) self.new m) }
     {
         let mut line = line;
         match next_value(pieces, &mut line)? {
@@ -34,7 +34,10 @@ impl<'p> Machine<'p> {
                 Ok(Mode::Eval(e))
             }
             None => match line.finish() {
-                Some(text) => Ok(Mode::Waits(Boxed::new(alloc, Op::Print(text))?)),
+                Some(text) => {
+                    let mode = waits(alloc, Op::Print(text))?;
+                    Ok(mode)
+                }
                 None => Ok(Mode::Faulted(Fault::Method)),
             },
         }
@@ -47,7 +50,7 @@ fn next_value<'p>(
     pieces: &'p [Piece],
     line: &mut Line,
 ) -> Result<Option<(&'p Code, &'p [Piece])>, OutOfMemory>
-    ensures same { IfOk result (λ found. (functions : List BodyPlan) (s : State) → run_pieces functions (go functions) line.new (from_value found) s ≡ run_pieces functions (go functions) line.old (pieces_in pieces.entry.now) s) }
+    ensures same { IfOk result (λ found. (program : ProgramPlan) (s : State) → run_pieces program (go program) line.new (from_value found) s ≡ run_pieces program (go program) line.old (pieces_in pieces.entry.now) s) }
     ensures lighter { IfOk result (λ found. pieces_weight (from_value found) ≤ pieces_weight (pieces_in pieces.entry.now)) }
 {
     for (index, piece) in pieces.iter().enumerate() {

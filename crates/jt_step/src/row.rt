@@ -1,25 +1,26 @@
 //! What follows in a row: the next operand, argument, arm or part of a block.
 
-ghost use Rattle.std.specs.Prelude.{◌≡◌, ◌∷◌, ◌+◌, [], List, IfOk, MatchOption};
-ghost use Rattle.jt_program.specs.Plan.{BodyPlan};
+ghost use Rattle.std.specs.Prelude.{◌≡◌, ◌∷◌, ◌+◌, [], IfOk, MatchOption};
+ghost use Rattle.jt_program.specs.Plan.{ProgramPlan};
 ghost use Rattle.jt_program.specs.View.{plan_of, plans};
 ghost use Rattle.jt_step.specs.Meaning.{go, run_all, run_arguments, run_choices, run_comparisons, run_connection, run_operands};
 ghost use Rattle.jt_step.specs.Moves.{Does, asking, valued_mode};
 ghost use Rattle.jt_step.specs.Stack.{choices_in, choices_weight, comparisons_in, comparisons_weight, does, operands_in, operands_weight, plans_weight, weight};
 
+use crate::fork::call_built_in;
 use crate::frame::Frame;
 use crate::machine::Machine;
 use crate::mode::Mode;
-use crate::value::apply;
 use jt_base::{Fault, OutOfMemory, Value};
 use jt_program::{Arm, BinaryOperator, Callee, Code};
 use jt_syntax::{ComparisonOperator, Connective};
 use sqlite_items::Items;
+use std::alloc::Global;
 
 impl<'p> Machine<'p> {
     /// Goes on with the parts of a block that are left; `v` is the value of the one before.
     pub(crate) fn next_part(&mut self, v: Value, es: &'p [Code]) -> Result<Mode<'p>, OutOfMemory>
-        ensures { IfOk result (λ m. (functions : List BodyPlan) → Does functions self.old (run_all functions (go functions) v (plans es.now)) (plans_weight (plans es.now) + 1) self.new m) }
+        ensures { IfOk result (λ m. (program : ProgramPlan) → Does program self.old (run_all program (go program) v (plans es.now)) (plans_weight (plans es.now) + 1) self.new m) }
     {
         match first_of(es) {
             None => Ok(Mode::Gave(v)),
@@ -36,7 +37,7 @@ impl<'p> Machine<'p> {
         v: Value,
         es: &'p [(BinaryOperator, Code)],
     ) -> Result<Mode<'p>, OutOfMemory>
-        ensures { IfOk result (λ m. (functions : List BodyPlan) → Does functions self.old (run_operands functions (go functions) v (operands_in es.now)) (operands_weight (operands_in es.now) + 1) self.new m) }
+        ensures { IfOk result (λ m. (program : ProgramPlan) → Does program self.old (run_operands program (go program) v (operands_in es.now)) (operands_weight (operands_in es.now) + 1) self.new m) }
     {
         match first_of(es) {
             None => Ok(Mode::Gave(v)),
@@ -54,7 +55,7 @@ impl<'p> Machine<'p> {
         v: Value,
         es: &'p [(ComparisonOperator, Code)],
     ) -> Result<Mode<'p>, OutOfMemory>
-        ensures { IfOk result (λ m. (functions : List BodyPlan) → Does functions self.old (run_comparisons functions (go functions) v (comparisons_in es.now)) (comparisons_weight (comparisons_in es.now) + 1) self.new m) }
+        ensures { IfOk result (λ m. (program : ProgramPlan) → Does program self.old (run_comparisons program (go program) v (comparisons_in es.now)) (comparisons_weight (comparisons_in es.now) + 1) self.new m) }
     {
         match first_of(es) {
             None => Ok(Mode::Gave(Value::Flag(true))),
@@ -73,7 +74,7 @@ impl<'p> Machine<'p> {
         v: Value,
         es: &'p [Code],
     ) -> Result<Mode<'p>, OutOfMemory>
-        ensures { IfOk result (λ m. (functions : List BodyPlan) → Does functions self.old (run_connection functions (go functions) connective v (plans es.now)) (plans_weight (plans es.now) + 1) self.new m) }
+        ensures { IfOk result (λ m. (program : ProgramPlan) → Does program self.old (run_connection program (go program) connective v (plans es.now)) (plans_weight (plans es.now) + 1) self.new m) }
     {
         match first_of(es) {
             None => Ok(Mode::Gave(v)),
@@ -97,7 +98,7 @@ impl<'p> Machine<'p> {
         arms: &'p [Arm],
         otherwise: &'p Code,
     ) -> Result<Mode<'p>, OutOfMemory>
-        ensures { IfOk result (λ m. (functions : List BodyPlan) → Does functions self.old (run_choices functions (go functions) (choices_in arms.now) (does functions (plan_of otherwise.entry.now))) (choices_weight (choices_in arms.now) + weight (plan_of otherwise.entry.now) + 1) self.new m) }
+        ensures { IfOk result (λ m. (program : ProgramPlan) → Does program self.old (run_choices program (go program) (choices_in arms.now) (does program (plan_of otherwise.entry.now))) (choices_weight (choices_in arms.now) + weight (plan_of otherwise.entry.now) + 1) self.new m) }
     {
         match first_of(arms) {
             None => Ok(Mode::Eval(otherwise)),
@@ -111,16 +112,17 @@ impl<'p> Machine<'p> {
     /// Goes on with the arguments that are left, and calls; `vs` are the values so far.
     pub(crate) fn next_argument(
         &mut self,
+        alloc: Global,
         callee: Callee,
         vs: Items<Value>,
         es: &'p [Code],
     ) -> Result<Mode<'p>, OutOfMemory>
-        ensures { IfOk result (λ m. (functions : List BodyPlan) → Does functions self.old (run_arguments functions (go functions) callee vs (plans es.now)) (plans_weight (plans es.now) + 1) self.new m) }
+        ensures { IfOk result (λ m. (program : ProgramPlan) → Does program self.old (run_arguments program (go program) callee vs (plans es.now)) (plans_weight (plans es.now) + 1) self.new m) }
     {
         match first_of(es) {
             None => match callee {
                 Callee::Function(number) => Ok(Mode::Enter(number, vs)),
-                Callee::BuiltIn(function) => Ok(valued(apply(function, vs.as_slice()))),
+                Callee::BuiltIn(function) => Ok(call_built_in(alloc, function, vs.as_slice())?),
             },
             Some((e, rest)) => {
                 self.frames.push(Frame::Arguments(callee, rest, vs))?;

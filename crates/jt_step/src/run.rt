@@ -1,14 +1,15 @@
 //! A machine that goes on with the replies of its operations.
 
-ghost use Rattle.std.specs.Prelude.{◌≡◌, ◌≤◌, true, IfOk, length, map};
-ghost use Rattle.jt_program.specs.View.{body_plan};
+ghost use Rattle.std.specs.Prelude.{◌≡◌, ◌≤◌, true, IfOk, length};
+ghost use Rattle.jt_base.specs.declared.operation.Reply.TheVariants as reply;
+ghost use Rattle.jt_program.specs.View.{program_plan};
 ghost use Rattle.jt_step.specs.State.{given};
 ghost use Rattle.jt_step.specs.Stack.{Runs, waits, taken, over_by, given_mode};
 
 use crate::machine::Machine;
 use crate::mode::Mode;
-use jt_base::{Note, Op, OutOfMemory, Reply, Value};
-use jt_program::Body;
+use jt_base::{Fault, Note, Op, OutOfMemory, Reply, Value};
+use jt_program::Program;
 use std::alloc::Global;
 
 impl<'p> Machine<'p> {
@@ -17,26 +18,26 @@ impl<'p> Machine<'p> {
     pub(crate) fn run_on(
         &mut self,
         alloc: Global,
-        functions: &'p [Body],
+        program: &'p Program,
         log: &[Note],
         used: usize,
         mode: Mode<'p>,
         turns: u32,
     ) -> Result<(Mode<'p>, usize), OutOfMemory>
         requires { used ≤ length log.now }
-        ensures { IfOk result (λ r. Runs (map body_plan functions.now) log.now turns self.old used mode.entry self.new r.1 r.0) }
+        ensures { IfOk result (λ r. Runs (program_plan program.now) log.now turns self.old used mode.entry self.new r.1 r.0) }
     {
         let mut mode = mode;
         let mut used = used;
         let mut taken = 0;
         'moves: loop {
-            mode = self.settle(alloc, functions, mode)?;
-            if self.begins(functions, &mode) {
+            mode = self.settle(alloc, program, mode)?;
+            if self.begins(program, &mode) {
                 if taken == turns {
                     return Ok((mode, used));
                 }
                 taken += 1;
-                mode = self.begin(alloc, functions, mode)?;
+                mode = self.begin(alloc, program, mode)?;
             } else {
                 if used == log.len() || !waits(&mode) {
                     return Ok((mode, used));
@@ -54,7 +55,7 @@ fn waits(mode: &Mode) -> bool
 {
     match mode {
         Mode::Begins(_) => true,
-        Mode::Waits(_) => true,
+        Mode::Waits(_, _) => true,
         Mode::Ending(_) => true,
         Mode::Failing(_) => true,
         _ => false,
@@ -71,7 +72,7 @@ fn answer<'p>(mode: Mode<'p>, reply: &Reply) -> Mode<'p>
             Reply::Ok => Mode::Eval(e),
             _ => Mode::Unfit,
         },
-        Mode::Waits(op) => given(op.get(), reply),
+        Mode::Waits(op, _start) => given(op.get(), reply),
         Mode::Ending(_v) => over(reply),
         Mode::Failing(_fault) => over(reply),
         _ => unreachable!(),
@@ -83,13 +84,27 @@ fn given<'p>(op: &Op, reply: &Reply) -> Mode<'p>
     ensures { result ≡ given_mode (given op.now reply.now) }
 {
     match reply {
-        Reply::Ok => match op {
-            Op::Begin => Mode::Gave(Value::Nothing),
-            Op::End(_) => Mode::Gave(Value::Nothing),
-            Op::Fail(_) => Mode::Gave(Value::Nothing),
-            Op::Print(_) => Mode::Gave(Value::Nothing),
+        Reply::Ok => given_ok(op),
+        Reply::Val(value) => match op {
+            Op::Fetch(_) => Mode::Gave(value.copy()),
             _ => Mode::Unfit,
         },
+        Reply::Failed => match op {
+            Op::Fetch(path) | Op::Wait(path) => Mode::Faulted(Fault::TaskFailed(path.copy())),
+            _ => Mode::Unfit,
+        },
+        _ => Mode::Unfit,
+    }
+}
+
+/// What an operation gives that is done.
+fn given_ok<'p>(op: &Op) -> Mode<'p>
+    ensures { result ≡ given_mode (given op.now reply.Ok) }
+{
+    match op {
+        Op::Begin | Op::End(_) | Op::Fail(_) => Mode::Gave(Value::Nothing),
+        Op::Print(_) | Op::Wait(_) | Op::Yield => Mode::Gave(Value::Nothing),
+        Op::Spawn(path, _) => Mode::Gave(Value::Task(path.copy())),
         _ => Mode::Unfit,
     }
 }

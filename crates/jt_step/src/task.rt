@@ -1,25 +1,29 @@
 //! A task that runs, stopped between its operations.
 
-ghost use Rattle.std.specs.Prelude.{◌≡◌, ◌<◌, ◌++◌, ◌∷◌, [], length, true, false, IfOk, OnErr, IsErr};
+ghost use Rattle.std.specs.Prelude.{◌≡◌, ◌<◌, length, true, false, IfOk, OnErr, IsErr};
 ghost use Rattle.jt_program.specs.View.{program_plan};
-ghost use Rattle.jt_step.specs.Tasks.{Advances, GoesOn};
+ghost use Rattle.jt_base.specs.declared.run.Pool.{Pool};
+ghost use Rattle.jt_base.specs.declared.run.Sizes.{Sizes};
+ghost use Rattle.jt_step.specs.Tasks.{Advances, AsksWell, GoesOn, new_task, seat_at};
 
 use crate::machine::Machine;
 use crate::mode::Mode;
 use crate::start::Start;
-use jt_base::{Limits, Note, Op, OutOfMemory, Reply};
+use jt_base::{How, Job, Limits, Note, Op, OutOfMemory, Path, Pool, Reply, Sizes};
 use jt_program::Program;
 use std::alloc::Global;
 use std::marker::Model;
 use std::mem::replace;
 
 /// What a task comes to.
-#[derive(PartialEq, Eq, Debug, Drop)]
+#[derive(Drop)]
 pub enum Advance {
     /// All the turns were taken, and a further one begins before the next operation.
     More,
     /// It needs this operation, and waits for its reply.
     Needs(Op),
+    /// It needs this spawn, and waits for its reply: the child's start.
+    Spawns(Op, Start),
     /// It has ended or failed.
     Over,
 }
@@ -28,9 +32,13 @@ pub enum Advance {
 #[derive(Drop)]
 pub struct TaskRun<'p> {
     program: &'p Program,
-    /// The most turns.
-    limit: u64,
+    sizes: Sizes,
+    limits: Limits,
+    path: Path,
     start: Start,
+    pool: Pool,
+    /// The worker to which it is bound.
+    bound: Option<u32>,
     log: Vec<Note>,
     /// How many notes the machine has had.
     used: usize,
@@ -56,23 +64,70 @@ impl<'p> Model for TaskRun<'p> {
     ghost invariant = { Holds };
 }
 
+/// The pool of a task that is made in this way, where `parent` is the pool of its maker.
+fn pool_of(path: &Path, how: How, sizes: Sizes, parent: Pool) -> Pool
+    ensures { result ≡ (seat_at sizes path.now how parent).pool }
+{
+    if path.is_main() {
+        return Pool::Default;
+    }
+    match how {
+        How::Default | How::Chunk(_) => Pool::Default,
+        How::Interactive => {
+            if sizes.interactive == 0 {
+                Pool::Default
+            } else {
+                Pool::Interactive
+            }
+        }
+        How::Async => parent,
+    }
+}
+
+/// The worker to which a task is bound at its beginning.
+fn bound_of(path: &Path, how: How) -> Option<u32>
+    ensures { (sizes : Sizes) (parent : Pool) → result ≡ (seat_at sizes path.now how parent).bound }
+{
+    if path.is_main() {
+        return Some(0);
+    }
+    match how {
+        How::Chunk(number) => Some(number),
+        _ => None,
+    }
+}
+
 impl<'p> TaskRun<'p> {
-    /// A task at its beginning, with no notes.
+    /// A task at its beginning, with no notes. `parent` is the pool of the task that makes it, and
+    /// `Default` for the main task.
+    ///
+    /// # Errors
+    ///
+    /// Where memory is wanting.
     pub fn start(
         alloc: Global,
         program: &'p Program,
         start: Start,
+        path: Path,
+        sizes: Sizes,
         limits: &Limits,
+        parent: Pool,
     ) -> Result<TaskRun<'p>, OutOfMemory>
         requires body { start.code < length program.now.tasks }
-        ensures { IfOk result (λ t. t ≡ record { program = program_plan program.now; limit = limits.now.turns; start = start; log = []; room = 0; taken = 0; failed = false }) }
+        ensures { IfOk result (λ t. t ≡ new_task (record { program = program_plan program.now; sizes = sizes; limits = limits.now }) path start parent) }
     {
         let body = &program.tasks.as_slice()[start.code as usize];
-        let machine = Machine::new(alloc, body.variables, program.constants, limits.turns)?;
+        let machine = Machine::new(alloc, program, body.variables, &start, &path, limits.turns)?;
+        let pool = pool_of(&path, start.how, sizes, parent);
+        let bound = bound_of(&path, start.how);
         Ok(TaskRun {
             program,
-            limit: limits.turns,
+            sizes,
+            limits: *limits,
+            path,
             start,
+            pool,
+            bound,
             log: Vec::new(alloc),
             used: 0,
             machine,
@@ -88,6 +143,7 @@ impl<'p> TaskRun<'p> {
     pub fn advance(&mut self, turns: u32) -> Result<Advance, OutOfMemory>
         ensures ok { IfOk result (λ a. Advances self.old turns a self.new) }
         ensures goes_on { IfOk result (λ a. GoesOn self.new a) }
+        ensures asks_well { IfOk result (λ a. AsksWell self.new a) }
         ensures err { OnErr result (self.new.failed ≡ true) }
         ensures kept { OnErr result (self.new ≡ record self.old { taken = self.new.taken; failed = true }) }
         ensures stuck { self.old.failed ≡ true → IsErr result }
@@ -99,7 +155,7 @@ impl<'p> TaskRun<'p> {
         let mode = replace(&mut self.mode, Mode::Over);
         let (mode, used) = self.machine.run_on(
             self.alloc,
-            self.program.functions.as_slice(),
+            self.program,
             self.log.as_slice(),
             self.used,
             mode,
@@ -111,25 +167,66 @@ impl<'p> TaskRun<'p> {
         self.failed = false;
         Ok(told)
     }
+}
 
-    /// Makes room for one note.
-    pub fn reserve_note(&mut self) -> Result<(), OutOfMemory>
-        ensures room { IfOk result (λ _. 0 < self.new.room) }
-        ensures kept { self.new ≡ record self.old { room = self.new.room } }
-    {
+impl<'p> Job for TaskRun<'p> {
+    ghost use Rattle.jt_step.specs.Laws.{first_operation, needs_no_spawn, spawns_next_child};
+    ghost use Rattle.jt_step.specs.Tasks.{Run, Task, next_in, told_of};
+
+    type Start = Start;
+
+    ghost Run = { Run };
+
+    ghost run = { λ (t : Task). t.run };
+
+    ghost told = { told_of };
+
+    ghost room = { λ (t : Task). t.room };
+
+    ghost next = { next_in };
+
+    fn path(&self) -> &Path {
+        &self.path
+    }
+
+    fn pool(&self) -> Pool {
+        self.pool
+    }
+
+    fn bound(&self) -> Option<u32> {
+        self.bound
+    }
+
+    fn priority(&self) -> u16 {
+        64 - self.path.len() as u16
+    }
+
+    fn last_stamp(&self) -> u32 {
+        match self.log.last() {
+            None => 0,
+            Some(note) => note.stamp,
+        }
+    }
+
+    fn reserve_note(&mut self) -> Result<(), OutOfMemory> {
         self.log.try_reserve(1)?;
         Ok(())
     }
 
-    /// Notes the reply of the operation that the task waits for, with the stamp of its entry. It takes
-    /// no memory.
-    pub fn note(&mut self, stamp: u32, reply: Reply)
-        requires room { 0 < self.old.room }
-        ensures { self.new ≡ record self.old { log = self.old.log ++ record { stamp = stamp; reply = reply } ∷ []; room = self.new.room } }
-    {
+    fn note(&mut self, stamp: u32, reply: Reply) {
         match self.log.push(Note { stamp, reply }) {
             Ok(()) => {}
             Err(_) => unreachable!(),
         }
     }
+
+    fn bind(&mut self, worker: u32) {
+        self.bound = Some(worker);
+    }
+
+    ghost begins = { λ r path start n. first_operation r.program r.limits.turns path start n };
+
+    ghost no_spawn = { λ r path start rs op. needs_no_spawn r.program r.limits.turns path start rs op };
+
+    ghost names = { λ r path start rs op t. spawns_next_child r.program r.limits.turns path start rs op t };
 }

@@ -1,8 +1,8 @@
 //! Moves up to the next turn, and the turns themselves.
 
-ghost use Rattle.std.specs.Prelude.{◌≡◌, ◌<◌, List, true, false, IfOk, map, slice_get};
-ghost use Rattle.jt_program.specs.Plan.{BodyPlan};
-ghost use Rattle.jt_program.specs.View.{body_plan};
+ghost use Rattle.std.specs.Prelude.{◌≡◌, ◌<◌, true, false, IfOk, slice_get};
+ghost use Rattle.jt_program.specs.Plan.{ProgramPlan};
+ghost use Rattle.jt_program.specs.View.{program_plan};
 ghost use Rattle.jt_step.specs.Stack.{Follows, Turns, Settles, rests, begins, refusal};
 
 use crate::frame::{Frame, Loop};
@@ -10,7 +10,7 @@ use crate::machine::Machine;
 use crate::mode::Mode;
 use crate::variables::{assign, renew, variables_of};
 use jt_base::{Fault, OutOfMemory, Value};
-use jt_program::Body;
+use jt_program::Program;
 use sqlite_items::at;
 use std::alloc::Global;
 use std::mem::replace;
@@ -20,26 +20,26 @@ const MOST_CALLS: u32 = 10000;
 
 impl<'p> Machine<'p> {
     /// Whether nothing moves but by a reply or by a turn.
-    fn rests(&self, functions: &[Body], mode: &Mode<'p>) -> bool
-        ensures { result ≡ rests (map body_plan functions.now) self.now mode.now }
+    fn rests(&self, program: &Program, mode: &Mode<'p>) -> bool
+        ensures { result ≡ rests (program_plan program.now) self.now mode.now }
     {
         match mode {
             Mode::Begins(_) => true,
-            Mode::Waits(_) => true,
+            Mode::Waits(_, _) => true,
             Mode::Ending(_) => true,
             Mode::Failing(_) => true,
             Mode::Over => true,
             Mode::Unfit => true,
-            _ => self.begins(functions, mode),
+            _ => self.begins(program, mode),
         }
     }
 
     /// Whether a turn begins next.
-    pub(crate) fn begins(&self, functions: &[Body], mode: &Mode<'p>) -> bool
-        ensures { result ≡ begins (map body_plan functions.now) self.now mode.now }
+    pub(crate) fn begins(&self, program: &Program, mode: &Mode<'p>) -> bool
+        ensures { result ≡ begins (program_plan program.now) self.now mode.now }
     {
         match mode {
-            Mode::Enter(f, _) => match at(functions, *f) {
+            Mode::Enter(f, _) => match at(program.functions.as_slice(), *f) {
                 None => false,
                 Some(_) => self.turns > 0 && self.open_calls < MOST_CALLS,
             },
@@ -49,10 +49,10 @@ impl<'p> Machine<'p> {
     }
 
     /// Why a call of this function can't begin.
-    fn refusal(&self, functions: &[Body], f: usize) -> Fault
-        ensures { result ≡ refusal (slice_get (map body_plan functions.now) f) self.now.turns }
+    fn refusal(&self, program: &Program, f: usize) -> Fault
+        ensures { result ≡ refusal (slice_get (program_plan program.now).functions f) self.now.turns }
     {
-        match at(functions, f) {
+        match at(program.functions.as_slice(), f) {
             None => Fault::Method,
             Some(_) => {
                 if self.turns == 0 {
@@ -68,29 +68,29 @@ impl<'p> Machine<'p> {
     fn step(
         &mut self,
         alloc: Global,
-        functions: &'p [Body],
+        program: &'p Program,
         mode: Mode<'p>,
     ) -> Result<Mode<'p>, OutOfMemory>
-        requires { rests (map body_plan functions.now) self.old mode ≡ false }
-        ensures { IfOk result (λ m. Follows (map body_plan functions.now) self.old mode.entry self.new m) }
+        requires { rests (program_plan program.now) self.old mode ≡ false }
+        ensures { IfOk result (λ m. Follows (program_plan program.now) self.old mode.entry self.new m) }
     {
         match mode {
             Mode::Eval(e) => {
-                let mode = self.eval(alloc, e)?;
+                let mode = self.eval(alloc, program, e)?;
                 Ok(mode)
             }
             Mode::Gave(v) => {
                 let mode = self.give(alloc, v)?;
                 Ok(mode)
             }
-            Mode::Returned(v) => Ok(self.return_value(v)),
+            Mode::Returned(v) => Ok(self.return_value(alloc, v)?),
             Mode::Broke => Ok(self.leave_loop()),
             Mode::Continued => {
                 let mode = self.next_turn()?;
                 Ok(mode)
             }
-            Mode::Faulted(fault) => Ok(self.fail(fault)),
-            Mode::Enter(f, _vs) => Ok(Mode::Faulted(self.refusal(functions, f))),
+            Mode::Faulted(fault) => Ok(self.fail(alloc, fault)?),
+            Mode::Enter(f, _vs) => Ok(Mode::Faulted(self.refusal(program, f))),
             Mode::Again(_) => Ok(Mode::Faulted(Fault::TurnLimit)),
             _ => unreachable!(),
         }
@@ -100,14 +100,14 @@ impl<'p> Machine<'p> {
     pub(crate) fn begin(
         &mut self,
         alloc: Global,
-        functions: &'p [Body],
+        program: &'p Program,
         mode: Mode<'p>,
     ) -> Result<Mode<'p>, OutOfMemory>
-        requires { begins (map body_plan functions.now) self.old mode ≡ true }
-        ensures { IfOk result (λ m. Turns (map body_plan functions.now) self.old mode.entry self.new m) }
+        requires { begins (program_plan program.now) self.old mode ≡ true }
+        ensures { IfOk result (λ m. Turns (program_plan program.now) self.old mode.entry self.new m) }
     {
         match mode {
-            Mode::Enter(f, vs) => match at(functions, f) {
+            Mode::Enter(f, vs) => match at(program.functions.as_slice(), f) {
                 None => unreachable!(),
                 Some(body) => {
                     let variables = variables_of(alloc, body.variables, vs.as_slice())?;
@@ -129,7 +129,7 @@ impl<'p> Machine<'p> {
     /// Begins a turn of a loop.
     fn again(&mut self, turns: Loop<'p>) -> Result<Mode<'p>, OutOfMemory>
         requires { 0 < self.old.turns }
-        ensures { IfOk result (λ m. (functions : List BodyPlan) → Turns functions self.old (Mode.Again turns.entry) self.new m) }
+        ensures { IfOk result (λ m. (program : ProgramPlan) → Turns program self.old (Mode.Again turns.entry) self.new m) }
     {
         match turns {
             Loop::While(first, count, _condition, body) => {
@@ -152,14 +152,14 @@ impl<'p> Machine<'p> {
     pub(crate) fn settle(
         &mut self,
         alloc: Global,
-        functions: &'p [Body],
+        program: &'p Program,
         mode: Mode<'p>,
     ) -> Result<Mode<'p>, OutOfMemory>
-        ensures { IfOk result (λ m. Settles (map body_plan functions.now) self.old mode.entry self.new m) }
+        ensures { IfOk result (λ m. Settles (program_plan program.now) self.old mode.entry self.new m) }
     {
         let mut mode = mode;
-        'moves: while !self.rests(functions, &mode) {
-            mode = self.step(alloc, functions, mode)?;
+        'moves: while !self.rests(program, &mode) {
+            mode = self.step(alloc, program, mode)?;
         }
         Ok(mode)
     }

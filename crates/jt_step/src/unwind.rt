@@ -1,42 +1,55 @@
 //! How the end of a part goes outwards, where it is no value.
 
-ghost use Rattle.std.specs.Prelude.{List, IfOk};
-ghost use Rattle.jt_program.specs.Plan.{BodyPlan};
+ghost use Rattle.std.specs.Prelude.{IfOk};
+ghost use Rattle.jt_program.specs.Plan.{ProgramPlan};
 ghost use Rattle.jt_step.specs.State.{Returned, Broke, Continued, Faulted};
 ghost use Rattle.jt_step.specs.Stack.{Follows, Hands};
 
-use crate::frame::Frame;
+use crate::frame::{Exit, Frame};
 use crate::machine::Machine;
 use crate::mode::Mode;
 use jt_base::{Fault, OutOfMemory, Value};
+use std::alloc::Global;
 
 impl<'p> Machine<'p> {
     /// The open call has this value.
-    pub(crate) fn return_value(&mut self, v: Value) -> Mode<'p>
-        ensures { (functions : List BodyPlan) → Follows functions self.old (Mode.Returned v) self.new result }
+    pub(crate) fn return_value(&mut self, alloc: Global, v: Value) -> Result<Mode<'p>, OutOfMemory>
+        ensures { IfOk result (λ m. (program : ProgramPlan) → Follows program self.old (Mode.Returned v) self.new m) }
     {
         match self.frames.pop() {
-            None => Mode::Ending(v),
-            Some(frame) => self.return_value_to(frame, v),
+            None => Ok(Mode::Ending(v)),
+            Some(frame) => {
+                let mode = self.return_value_to(alloc, frame, v)?;
+                Ok(mode)
+            }
         }
     }
 
-    fn return_value_to(&mut self, frame: Frame<'p>, v: Value) -> Mode<'p>
-        ensures { (functions : List BodyPlan) → Hands functions self.old frame.entry (Returned v) self.new result }
+    fn return_value_to(
+        &mut self,
+        alloc: Global,
+        frame: Frame<'p>,
+        v: Value,
+    ) -> Result<Mode<'p>, OutOfMemory>
+        ensures { IfOk result (λ m. (program : ProgramPlan) → Hands program self.old frame.entry (Returned v) self.new m) }
     {
         match frame {
             Frame::Call(variables, open_calls) => {
                 self.variables = variables;
                 self.open_calls = open_calls;
-                Mode::Gave(v)
+                Ok(Mode::Gave(v))
             }
-            _ => Mode::Returned(v),
+            Frame::Sync(outer) => {
+                let mode = self.end_sync(alloc, outer, Exit::Return, v)?;
+                Ok(mode)
+            }
+            _ => Ok(Mode::Returned(v)),
         }
     }
 
     /// The innermost loop is left.
     pub(crate) fn leave_loop(&mut self) -> Mode<'p>
-        ensures { (functions : List BodyPlan) → Follows functions self.old Mode.Broke self.new result }
+        ensures { (program : ProgramPlan) → Follows program self.old Mode.Broke self.new result }
     {
         match self.frames.pop() {
             None => Mode::Failing(Fault::Method),
@@ -44,10 +57,14 @@ impl<'p> Machine<'p> {
         }
     }
 
-    fn leave_loop_to(&self, frame: Frame<'p>) -> Mode<'p>
-        ensures { (functions : List BodyPlan) → Hands functions self.now frame.entry Broke self.now result }
+    fn leave_loop_to(&mut self, frame: Frame<'p>) -> Mode<'p>
+        ensures { (program : ProgramPlan) → Hands program self.old frame.entry Broke self.new result }
     {
         match frame {
+            Frame::Sync(outer) => {
+                self.awaited = outer;
+                Mode::Broke
+            }
             Frame::Call(_, _) => Mode::Faulted(Fault::Method),
             Frame::Loop(_) => Mode::Gave(Value::Nothing),
             _ => Mode::Broke,
@@ -56,7 +73,7 @@ impl<'p> Machine<'p> {
 
     /// The innermost loop goes on to its next turn.
     pub(crate) fn next_turn(&mut self) -> Result<Mode<'p>, OutOfMemory>
-        ensures { IfOk result (λ m. (functions : List BodyPlan) → Follows functions self.old Mode.Continued self.new m) }
+        ensures { IfOk result (λ m. (program : ProgramPlan) → Follows program self.old Mode.Continued self.new m) }
     {
         match self.frames.pop() {
             None => Ok(Mode::Failing(Fault::Method)),
@@ -68,7 +85,7 @@ impl<'p> Machine<'p> {
     }
 
     fn next_turn_to(&mut self, frame: Frame<'p>) -> Result<Mode<'p>, OutOfMemory>
-        ensures { IfOk result (λ m. (functions : List BodyPlan) → Hands functions self.old frame.entry Continued self.new m) }
+        ensures { IfOk result (λ m. (program : ProgramPlan) → Hands program self.old frame.entry Continued self.new m) }
     {
         match frame {
             Frame::Call(_, _) => Ok(Mode::Faulted(Fault::Method)),
@@ -76,23 +93,41 @@ impl<'p> Machine<'p> {
                 let mode = self.go_on(turns)?;
                 Ok(mode)
             }
+            Frame::Sync(outer) => {
+                self.awaited = outer;
+                Ok(Mode::Continued)
+            }
             _ => Ok(Mode::Continued),
         }
     }
 
     /// A part failed.
-    pub(crate) fn fail(&mut self, fault: Fault) -> Mode<'p>
-        ensures { (functions : List BodyPlan) → Follows functions self.old (Mode.Faulted fault) self.new result }
+    pub(crate) fn fail(&mut self, alloc: Global, fault: Fault) -> Result<Mode<'p>, OutOfMemory>
+        ensures { IfOk result (λ m. (program : ProgramPlan) → Follows program self.old (Mode.Faulted fault) self.new m) }
     {
         match self.frames.pop() {
-            None => Mode::Failing(fault),
-            Some(frame) => self.fail_to(frame, fault),
+            None => Ok(Mode::Failing(fault)),
+            Some(frame) => {
+                let mode = self.fail_to(alloc, frame, fault)?;
+                Ok(mode)
+            }
         }
     }
 
-    fn fail_to(&self, _frame: Frame<'p>, fault: Fault) -> Mode<'p>
-        ensures { (functions : List BodyPlan) → Hands functions self.now _frame.entry (Faulted fault) self.now result }
+    fn fail_to(
+        &mut self,
+        alloc: Global,
+        frame: Frame<'p>,
+        fault: Fault,
+    ) -> Result<Mode<'p>, OutOfMemory>
+        ensures { IfOk result (λ m. (program : ProgramPlan) → Hands program self.old frame.entry (Faulted fault) self.new m) }
     {
-        Mode::Faulted(fault)
+        match frame {
+            Frame::Waiting(waits) => {
+                let mode = self.next_wait(alloc, waits.failed(fault))?;
+                Ok(mode)
+            }
+            _ => Ok(Mode::Faulted(fault)),
+        }
     }
 }

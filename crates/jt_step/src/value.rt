@@ -121,6 +121,7 @@ fn divide(function: BuiltIn, a: i64, b: i64) -> Result<Value, Fault>
         BuiltIn::Div => number_or(jt_num::div(a, b)),
         BuiltIn::Rem => number_or(jt_num::rem(a, b)),
         BuiltIn::Mod => number_or(jt_num::mod_(a, b)),
+        BuiltIn::Fetch | BuiltIn::Wait | BuiltIn::Yield => Err(Fault::Method),
     }
 }
 

@@ -23,15 +23,6 @@ pub(crate) fn variables_of(
     Ok(variables)
 }
 
-/// Variables that have no value.
-pub(crate) fn unset(alloc: Global, count: usize) -> Result<Items<Option<Value>>, OutOfMemory>
-    ensures { IfOk result (λ variables. variables ≡ replicate count None) }
-{
-    let mut variables = Items::new(alloc);
-    add_unset(&mut variables, count)?;
-    Ok(variables)
-}
-
 /// Takes the values of a loop's own variables away, before a turn.
 pub(crate) fn renew(
     variables: &mut Items<Option<Value>>,

@@ -2,6 +2,7 @@
 use Rattle.std.proofs.Common.{◌≡◌, ℕ, ◌+◌, ◌≤◌, ◌↔◌, List, [], ◌++◌, length, Option, Some, None, Result, Ok, Err, IsUtf8, refl, sym, ap, ◌∙◌, subst, arith}
 use Rattle.std.proofs.lemmas.List.{append-nil, length-append}
 use Rattle.jt_base.specs.declared.entry.Entry.{Entry}
+use Rattle.jt_base.specs.declared.run.Sizes.{Sizes}
 use Rattle.jt_base.specs.Outside.{ReadsToEnd, Gives}
 use Rattle.jt_grammar.specs.Joined.{IsScriptOf, IsUnexpected, IsTooDeep}
 use Rattle.jt_grammar.proofs.Main.{lines_only}
@@ -18,10 +19,10 @@ use Rattle.jt_scopes.specs.Scripts.{Among, Breaks, BreaksNone, broken_rules}
 use Rattle.jt_syntax.specs.Tree.{TopTree}
 use Rattle.jt_syntax.specs.declared.token.Token.{Token}
 use Rattle.julia_tasks.specs.declared.report.Refusal.{Refusal}
-use Rattle.julia_tasks.specs.declared.report.Refusal.TheVariants.{BadCharacter, OpenString, NumberTooLarge, Unexpected, TooDeep, NotBuilt, UnknownName, AmbiguousGlobal, TwiceDefined, WrongCount, NoConstant, BadJump}
+use Rattle.julia_tasks.specs.declared.report.Refusal.TheVariants.{BadCharacter, OpenString, NumberTooLarge, Unexpected, TooDeep, NotBuilt, UnknownName, CapturedAssigned, AmbiguousGlobal, TwiceDefined, WrongCount, NoConstant, BadJump}
 use Rattle.julia_tasks.specs.declared.report.Status.{Status}
-use Rattle.julia_tasks.specs.declared.report.Status.TheVariants.{Ok as Fine, MainFailed, Usage, Refused, ReadFault, WriteFault, EventLimit, OutOfMemory, TooLarge, NotText}
-use Rattle.julia_tasks.specs.Tool.{Answers, WasRead, IsAccepted, IsOfRun, IsScriptText, IsRefused, IsMisnamedAt, most_script, most_open}
+use Rattle.julia_tasks.specs.declared.report.Status.TheVariants.{Ok as Fine, MainFailed, Usage, Refused, ReadFault, WriteFault, Deadlock, EventLimit, OutOfMemory, TooLarge, NotText}
+use Rattle.julia_tasks.specs.Tool.{AnswersSource, WasRead, IsAccepted, IsOfRun, IsScriptText, IsRefused, IsMisnamedAt, most_script, most_open}
 
 -- what a source gave is no more than what was left
 not_too_many : (before after : Option (List ℕ)) → IsAccepted before → Gives before after (most_script + 1) → ⊥
@@ -84,6 +85,7 @@ not_refused bytes ts tops NotBuilt at is built named r =
     none_some : {n : ℕ} → None ≡ Some n → ⊥
     none_some q = cc
 not_refused bytes ts tops UnknownName at is built named r = not_misnamed bytes ts tops rule.UnknownName at is named r
+not_refused bytes ts tops CapturedAssigned at is built named r = not_misnamed bytes ts tops rule.CapturedAssigned at is named r
 not_refused bytes ts tops AmbiguousGlobal at is built named r = not_misnamed bytes ts tops rule.AmbiguousGlobal at is named r
 not_refused bytes ts tops TwiceDefined at is built named r = not_misnamed bytes ts tops rule.TwiceDefined at is named r
 not_refused bytes ts tops WrongCount at is built named r = not_misnamed bytes ts tops rule.WrongCount at is named r
@@ -100,20 +102,27 @@ text_source : (before after : Option (List ℕ)) (read : List ℕ) → IsAccepte
 text_source None after read accepted h no_text = accepted
 text_source (Some bytes) after read accepted h no_text = no_text (subst IsUtf8 (all_read bytes read after h) accepted.3.text)
 
-pub completes : (run read_rose wrote_rose : Type 0) (status : Status) (history : List Entry) (before after out_before out_after : Option (List ℕ))
-    → (status ≡ Usage ↔ (run → ⊥)) → (status ≡ ReadFault → read_rose) → (status ≡ TooLarge → Gives before after (most_script + 1))
-    → (WasRead status → (bytes : List ℕ) × ReadsToEnd before after bytes × (length bytes ≤ most_script) × Answers bytes status history out_before out_after)
+none_is_some : {A : Type 0} (o : Option A) (a : A) → o ≡ None → o ≡ Some a → ⊥
+none_is_some o a n q = apart (sym n ∙ q)
+  where
+    apart : {A : Type 0} {a : A} → None ≡ Some a → ⊥
+    apart e = cc
+
+pub completes : (sizes : Option Sizes) (read_rose wrote_rose : Type 0) (status : Status) (history : List Entry) (before after out_before out_after : Option (List ℕ))
+    → (status ≡ Usage ↔ (sizes ≡ None)) → (status ≡ ReadFault → read_rose) → (status ≡ TooLarge → Gives before after (most_script + 1))
+    → ((chosen : Sizes) → sizes ≡ Some chosen → WasRead status → AnswersSource chosen before after status history out_before out_after)
     → (status ≡ WriteFault → wrote_rose)
-    → run → (read_rose → ⊥) → (wrote_rose → ⊥) → IsAccepted before → IsOfRun status
-completes run rr wr Fine history b a ob oa usage read large whole write is_run no_read no_write accepted = tt
-completes run rr wr (MainFailed fault) history b a ob oa usage read large whole write is_run no_read no_write accepted = tt
-completes run rr wr EventLimit history b a ob oa usage read large whole write is_run no_read no_write accepted = tt
-completes run rr wr OutOfMemory history b a ob oa usage read large whole write is_run no_read no_write accepted = tt
-completes run rr wr Usage history b a ob oa usage read large whole write is_run no_read no_write accepted = absurd (usage.0 refl is_run)
-completes run rr wr ReadFault history b a ob oa usage read large whole write is_run no_read no_write accepted = absurd (no_read (read refl))
-completes run rr wr WriteFault history b a ob oa usage read large whole write is_run no_read no_write accepted = absurd (no_write (write refl))
-completes run rr wr TooLarge history b a ob oa usage read large whole write is_run no_read no_write accepted = absurd (not_too_many b a accepted (large refl))
-completes run rr wr (Refused kind at) history b a ob oa usage read large whole write is_run no_read no_write accepted =
-    let w = whole tt in absurd (not_refused_source b a w.0 kind at accepted w.1 w.3.1)
-completes run rr wr NotText history b a ob oa usage read large whole write is_run no_read no_write accepted =
-    let w = whole tt in absurd (text_source b a w.0 accepted w.1 w.3)
+    → (chosen : Sizes) → sizes ≡ Some chosen → (read_rose → ⊥) → (wrote_rose → ⊥) → IsAccepted before → IsOfRun status
+completes sizes rr wr Fine history b a ob oa usage read large whole write chosen is no_read no_write accepted = tt
+completes sizes rr wr (MainFailed fault) history b a ob oa usage read large whole write chosen is no_read no_write accepted = tt
+completes sizes rr wr Deadlock history b a ob oa usage read large whole write chosen is no_read no_write accepted = tt
+completes sizes rr wr EventLimit history b a ob oa usage read large whole write chosen is no_read no_write accepted = tt
+completes sizes rr wr OutOfMemory history b a ob oa usage read large whole write chosen is no_read no_write accepted = tt
+completes sizes rr wr Usage history b a ob oa usage read large whole write chosen is no_read no_write accepted = absurd (none_is_some sizes chosen (usage.0 refl) is)
+completes sizes rr wr ReadFault history b a ob oa usage read large whole write chosen is no_read no_write accepted = absurd (no_read (read refl))
+completes sizes rr wr WriteFault history b a ob oa usage read large whole write chosen is no_read no_write accepted = absurd (no_write (write refl))
+completes sizes rr wr TooLarge history b a ob oa usage read large whole write chosen is no_read no_write accepted = absurd (not_too_many b a accepted (large refl))
+completes sizes rr wr (Refused kind at) history b a ob oa usage read large whole write chosen is no_read no_write accepted =
+    let w = whole chosen is tt in absurd (not_refused_source b a w.bytes kind at accepted w.read w.answers.1)
+completes sizes rr wr NotText history b a ob oa usage read large whole write chosen is no_read no_write accepted =
+    let w = whole chosen is tt in absurd (text_source b a w.bytes accepted w.read w.answers)

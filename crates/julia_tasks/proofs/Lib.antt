@@ -1,3 +1,3 @@
 pub mod Answered
 pub mod Complete
-pub mod OneWord
+pub mod Numbers

@@ -1,3 +1,4 @@
 pub mod Faults
 pub mod Status
+pub mod Words
 pub mod Tool

@@ -2,9 +2,9 @@
 use Rattle.std.specs.Prelude.{ℕ, List, [], ◌++◌, codes}
 use Rattle.std.specs.Fmt.{decimal}
 use Rattle.julia_tasks.specs.declared.report.Refusal.{Refusal}
-use Rattle.julia_tasks.specs.declared.report.Refusal.TheVariants.{BadCharacter, OpenString, NumberTooLarge, Unexpected, TooDeep, NotBuilt, UnknownName, AmbiguousGlobal, TwiceDefined, WrongCount, NoConstant, BadJump}
+use Rattle.julia_tasks.specs.declared.report.Refusal.TheVariants.{BadCharacter, OpenString, NumberTooLarge, Unexpected, TooDeep, NotBuilt, UnknownName, CapturedAssigned, AmbiguousGlobal, TwiceDefined, WrongCount, NoConstant, BadJump}
 use Rattle.julia_tasks.specs.declared.report.Status.{Status}
-use Rattle.julia_tasks.specs.declared.report.Status.TheVariants.{Ok, MainFailed, Usage, Refused, ReadFault, WriteFault, EventLimit, OutOfMemory, TooLarge, NotText}
+use Rattle.julia_tasks.specs.declared.report.Status.TheVariants.{Ok, MainFailed, Usage, Refused, ReadFault, WriteFault, Deadlock, EventLimit, OutOfMemory, TooLarge, NotText}
 use Rattle.julia_tasks.specs.Faults.{fault_text}
 
 abbrev pub number_of : Status → ℕ
@@ -14,6 +14,7 @@ number_of Usage = 2
 number_of (Refused kind at) = 3
 number_of ReadFault = 4
 number_of WriteFault = 5
+number_of Deadlock = 6
 number_of EventLimit = 7
 number_of OutOfMemory = 8
 number_of TooLarge = 9
@@ -27,6 +28,7 @@ kind_of Unexpected = codes "unexpected"
 kind_of TooDeep = codes "too-deep"
 kind_of NotBuilt = codes "not-built"
 kind_of UnknownName = codes "unknown-name"
+kind_of CapturedAssigned = codes "captured-assigned"
 kind_of AmbiguousGlobal = codes "ambiguous-global"
 kind_of TwiceDefined = codes "twice-defined"
 kind_of WrongCount = codes "wrong-count"
@@ -44,6 +46,7 @@ note_of Usage = line (codes "usage: run, trace, check, draws or gen with options
 note_of (Refused kind at) = line (codes "refused: " ++ kind_of kind ++ codes " at " ++ decimal at)
 note_of ReadFault = line (codes "reading failed")
 note_of WriteFault = line (codes "writing failed")
+note_of Deadlock = line (codes "deadlock")
 note_of EventLimit = line (codes "event limit")
 note_of OutOfMemory = line (codes "out of memory")
 note_of TooLarge = line (codes "input too large")
@@ -57,6 +60,7 @@ IsBrief Usage = Unit {0}
 IsBrief (Refused kind at) = Unit {0}
 IsBrief ReadFault = Unit {0}
 IsBrief WriteFault = Unit {0}
+IsBrief Deadlock = Unit {0}
 IsBrief EventLimit = Unit {0}
 IsBrief OutOfMemory = Unit {0}
 IsBrief TooLarge = Unit {0}

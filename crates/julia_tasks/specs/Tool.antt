@@ -1,10 +1,11 @@
 -- What `run` answers, by the words and by the bytes that it reads.
-use Rattle.std.specs.Prelude.{◌≡◌, ℕ, ◌≤◌, ◌⊎◌, List, [], ◌∷◌, Option, Some, None, length, codes, IsUtf8}
+use Rattle.std.specs.Prelude.{◌≡◌, ℕ, ◌≤◌, ◌⊎◌, List, [], ◌∷◌, Option, Some, None, length, IsUtf8}
 use Rattle.std.specs.Io.KnownBytes.{Appends}
 use Rattle.jt_base.specs.declared.entry.Entry.{Entry}
 use Rattle.jt_base.specs.declared.run.Limits.{Limits}
 use Rattle.jt_base.specs.declared.run.Seeds.{Seeds}
-use Rattle.jt_base.specs.Outside.{Rose, WritesPrefix}
+use Rattle.jt_base.specs.declared.run.Sizes.{Sizes}
+use Rattle.jt_base.specs.Outside.{Rose, ReadsToEnd, WritesPrefix}
 use Rattle.jt_laws.specs.Lines.{lines_of}
 use Rattle.jt_grammar.specs.Joined.{IsScriptOf, IsUnexpected, IsTooDeep}
 use Rattle.jt_grammar.specs.Nesting.{TopsWithin}
@@ -26,21 +27,18 @@ use Rattle.jt_syntax.specs.declared.token.Token.{Token}
 use Rattle.jt_machine.specs.declared.run.End.{End}
 use Rattle.jt_machine.specs.declared.run.End.TheVariants as end
 use Rattle.jt_machine.specs.Runs.{IsRun as IsRunOfProgram}
+use Rattle.jt_step.specs.Tasks.{Run as RunOfTasks}
 use Rattle.julia_tasks.specs.declared.reading.ReadError.{ReadError}
 use Rattle.julia_tasks.specs.declared.reading.ReadError.TheVariants as read_error
 use Rattle.julia_tasks.specs.declared.report.Refusal.{Refusal}
-use Rattle.julia_tasks.specs.declared.report.Refusal.TheVariants.{BadCharacter, OpenString, NumberTooLarge, Unexpected, TooDeep, NotBuilt, UnknownName, AmbiguousGlobal, TwiceDefined, WrongCount, NoConstant, BadJump}
+use Rattle.julia_tasks.specs.declared.report.Refusal.TheVariants.{BadCharacter, OpenString, NumberTooLarge, Unexpected, TooDeep, NotBuilt, UnknownName, CapturedAssigned, AmbiguousGlobal, TwiceDefined, WrongCount, NoConstant, BadJump}
 use Rattle.julia_tasks.specs.declared.report.Status.{Status}
-use Rattle.julia_tasks.specs.declared.report.Status.TheVariants.{Ok, MainFailed, Usage, Refused, ReadFault, WriteFault, EventLimit, OutOfMemory, TooLarge, NotText}
+use Rattle.julia_tasks.specs.declared.report.Status.TheVariants.{Ok, MainFailed, Usage, Refused, ReadFault, WriteFault, Deadlock, EventLimit, OutOfMemory, TooLarge, NotText}
 use Rattle.julia_tasks.specs.Status.{note_of}
 
 -- the most bytes of a script
 abbrev pub most_script : ℕ
 most_script = 1048576
-
--- the words are the one word `run`
-abbrev pub IsRun : List (List ℕ) → Type 0
-IsRun words = words ≡ codes "run" ∷ []
 
 -- the seed words of a run
 abbrev pub default_seeds : Seeds
@@ -61,15 +59,19 @@ pub record IsScriptText (bytes : List ℕ) (tokens : List Token) (tops : List To
   pub parsed : IsScriptOf tokens tops
   pub nested : TopsWithin most_open tops
 
+-- the tasks of a program's run with so many workers
+abbrev pub run_with : Sizes → List TopTree → RunOfTasks
+run_with sizes tops = record { program = program_of tops; sizes = sizes; limits = default_limits }
+
 -- the bytes are a script all of whose forms run and that breaks no rule of names, and the history is one of its
--- program's runs, which ends so
-pub record IsRunOf (bytes : List ℕ) (history : List Entry) (end : End) : Type 0 where
+-- program's runs with so many workers, which ends so
+pub record IsRunOf (sizes : Sizes) (bytes : List ℕ) (history : List Entry) (end : End) : Type 0 where
   pub tokens : List Token
   pub tops : List TopTree
   pub read : IsScriptText bytes tokens tops
   pub built : unbuilt tops ≡ None
   pub named : BreaksNone tops
-  pub run : IsRunOfProgram (program_of tops) default_seeds default_limits history end
+  pub run : IsRunOfProgram (run_with sizes tops) default_seeds history end
 
 -- the tokens of a text are refused at this place: they are so before that token, and not with it
 abbrev pub IsUnexpectedAt : List ℕ → ℕ → Type 0
@@ -95,6 +97,7 @@ IsRefused bytes Unexpected at = IsUnexpectedAt bytes at
 IsRefused bytes TooDeep at = IsTooDeepAt bytes at
 IsRefused bytes NotBuilt at = IsUnbuiltAt bytes at
 IsRefused bytes UnknownName at = IsMisnamedAt bytes rule.UnknownName at
+IsRefused bytes CapturedAssigned at = IsMisnamedAt bytes rule.CapturedAssigned at
 IsRefused bytes AmbiguousGlobal at = IsMisnamedAt bytes rule.AmbiguousGlobal at
 IsRefused bytes TwiceDefined at = IsMisnamedAt bytes rule.TwiceDefined at
 IsRefused bytes WrongCount at = IsMisnamedAt bytes rule.WrongCount at
@@ -103,17 +106,25 @@ IsRefused bytes BadJump at = IsMisnamedAt bytes rule.BadJump at
 
 -- The answer to bytes that were read to their end, with the history, and what was written before and after: either
 -- the history's lines were written, all of them or, where a write failed, a prefix; or the bytes are no text, or a text that is refused.
-abbrev pub Answers : List ℕ → Status → List Entry → Option (List ℕ) → Option (List ℕ) → Type 0
-Answers bytes Ok history before after = IsRunOf bytes history end.Ok × Appends before after (lines_of history)
-Answers bytes (MainFailed fault) history before after = IsRunOf bytes history (end.MainFailed fault) × Appends before after (lines_of history)
-Answers bytes EventLimit history before after = IsRunOf bytes history end.EventLimit × Appends before after (lines_of history)
-Answers bytes WriteFault history before after = (e : End) × IsRunOf bytes history e × WritesPrefix before after (lines_of history)
-Answers bytes (Refused kind at) history before after = IsUtf8 bytes × IsRefused bytes kind at
-Answers bytes NotText history before after = ¬ IsUtf8 bytes
-Answers bytes Usage history before after = Unit {0}
-Answers bytes ReadFault history before after = Unit {0}
-Answers bytes OutOfMemory history before after = Unit {0}
-Answers bytes TooLarge history before after = Unit {0}
+abbrev pub Answers : Sizes → List ℕ → Status → List Entry → Option (List ℕ) → Option (List ℕ) → Type 0
+Answers sizes bytes Ok history before after = IsRunOf sizes bytes history end.Ok × Appends before after (lines_of history)
+Answers sizes bytes (MainFailed fault) history before after = IsRunOf sizes bytes history (end.MainFailed fault) × Appends before after (lines_of history)
+Answers sizes bytes Deadlock history before after = IsRunOf sizes bytes history end.Deadlock × Appends before after (lines_of history)
+Answers sizes bytes EventLimit history before after = IsRunOf sizes bytes history end.EventLimit × Appends before after (lines_of history)
+Answers sizes bytes WriteFault history before after = (e : End) × IsRunOf sizes bytes history e × WritesPrefix before after (lines_of history)
+Answers sizes bytes (Refused kind at) history before after = IsUtf8 bytes × IsRefused bytes kind at
+Answers sizes bytes NotText history before after = ¬ IsUtf8 bytes
+Answers sizes bytes Usage history before after = Unit {0}
+Answers sizes bytes ReadFault history before after = Unit {0}
+Answers sizes bytes OutOfMemory history before after = Unit {0}
+Answers sizes bytes TooLarge history before after = Unit {0}
+
+-- the answer to what was read of a source, which is no longer than a script may be
+pub record AnswersSource (sizes : Sizes) (left_before left_after : Option (List ℕ)) (status : Status) (history : List Entry) (before after : Option (List ℕ)) : Type 0 where
+  pub bytes : List ℕ
+  pub read : ReadsToEnd left_before left_after bytes
+  pub short : length bytes ≤ most_script
+  pub answers : Answers sizes bytes status history before after
 
 -- bytes that are told, no more than a script may have, and a script all of whose forms run and that breaks no rule of names
 abbrev pub IsAccepted : Option (List ℕ) → Type 0
@@ -124,6 +135,7 @@ IsAccepted (Some bytes) = (length bytes ≤ most_script) × (tokens : List Token
 abbrev pub IsOfRun : Status → Type 0
 IsOfRun Ok = Unit {0}
 IsOfRun (MainFailed fault) = Unit {0}
+IsOfRun Deadlock = Unit {0}
 IsOfRun EventLimit = Unit {0}
 IsOfRun OutOfMemory = Unit {0}
 IsOfRun Usage = ⊥
@@ -137,6 +149,7 @@ IsOfRun NotText = ⊥
 abbrev pub WasRead : Status → Type 0
 WasRead Ok = Unit {0}
 WasRead (MainFailed fault) = Unit {0}
+WasRead Deadlock = Unit {0}
 WasRead EventLimit = Unit {0}
 WasRead WriteFault = Unit {0}
 WasRead (Refused kind at) = Unit {0}
@@ -150,6 +163,7 @@ WasRead TooLarge = ⊥
 abbrev pub ComesAfterReading : Status → Type 0
 ComesAfterReading Ok = Unit {0}
 ComesAfterReading (MainFailed fault) = Unit {0}
+ComesAfterReading Deadlock = Unit {0}
 ComesAfterReading EventLimit = Unit {0}
 ComesAfterReading WriteFault = Unit {0}
 ComesAfterReading (Refused kind at) = Unit {0}
@@ -163,6 +177,7 @@ ComesAfterReading TooLarge = ⊥
 abbrev pub WroteNothing : Status → Type 0
 WroteNothing Ok = ⊥
 WroteNothing (MainFailed fault) = ⊥
+WroteNothing Deadlock = ⊥
 WroteNothing EventLimit = ⊥
 WroteNothing WriteFault = ⊥
 WroteNothing (Refused kind at) = Unit {0}
@@ -176,6 +191,7 @@ WroteNothing TooLarge = Unit {0}
 abbrev pub status_of_end : End → Status
 status_of_end end.Ok = Ok
 status_of_end (end.MainFailed fault) = MainFailed fault
+status_of_end end.Deadlock = Deadlock
 status_of_end end.EventLimit = EventLimit
 
 abbrev pub status_of_read : ReadError → Status
@@ -196,6 +212,7 @@ status_of_parsing grammatical.OutOfMemory = OutOfMemory
 
 abbrev pub status_of_naming : NameError → Status
 status_of_naming (naming.UnknownName at) = Refused UnknownName at
+status_of_naming (naming.CapturedAssigned at) = Refused CapturedAssigned at
 status_of_naming (naming.AmbiguousGlobal at) = Refused AmbiguousGlobal at
 status_of_naming (naming.TwiceDefined at) = Refused TwiceDefined at
 status_of_naming (naming.WrongCount at) = Refused WrongCount at
@@ -210,6 +227,7 @@ Stops bytes NotText = ¬ IsUtf8 bytes
 Stops bytes OutOfMemory = Unit {0}
 Stops bytes Ok = ⊥
 Stops bytes (MainFailed fault) = ⊥
+Stops bytes Deadlock = ⊥
 Stops bytes EventLimit = ⊥
 Stops bytes WriteFault = ⊥
 Stops bytes Usage = ⊥
@@ -227,6 +245,7 @@ StopsTokens tokens status = ⊥
 -- why there is no run of a script all of whose forms run
 abbrev pub StopsScript : List TopTree → Status → Type 0
 StopsScript tops (Refused UnknownName at) = Breaks tops (broken at rule.UnknownName)
+StopsScript tops (Refused CapturedAssigned at) = Breaks tops (broken at rule.CapturedAssigned)
 StopsScript tops (Refused AmbiguousGlobal at) = Breaks tops (broken at rule.AmbiguousGlobal)
 StopsScript tops (Refused TwiceDefined at) = Breaks tops (broken at rule.TwiceDefined)
 StopsScript tops (Refused WrongCount at) = Breaks tops (broken at rule.WrongCount)
@@ -243,6 +262,7 @@ TellsFailure Usage note = Unit {0}
 TellsFailure (Refused kind at) note = Unit {0}
 TellsFailure ReadFault note = Unit {0}
 TellsFailure WriteFault note = Unit {0}
+TellsFailure Deadlock note = Unit {0}
 TellsFailure EventLimit note = Unit {0}
 TellsFailure OutOfMemory note = Unit {0}
 TellsFailure TooLarge note = Unit {0}

@@ -74,6 +74,7 @@ impl From<NameError> for Status {
     fn from(error: NameError) -> Status {
         match error {
             NameError::UnknownName(at) => Status::Refused(Refusal::UnknownName, at),
+            NameError::CapturedAssigned(at) => Status::Refused(Refusal::CapturedAssigned, at),
             NameError::AmbiguousGlobal(at) => Status::Refused(Refusal::AmbiguousGlobal, at),
             NameError::TwiceDefined(at) => Status::Refused(Refusal::TwiceDefined, at),
             NameError::WrongCount(at) => Status::Refused(Refusal::WrongCount, at),
@@ -94,6 +95,7 @@ impl From<End> for Status {
         match end {
             End::Ok => Status::Ok,
             End::MainFailed(fault) => Status::MainFailed(fault),
+            End::Deadlock => Status::Deadlock,
             End::EventLimit => Status::EventLimit,
         }
     }

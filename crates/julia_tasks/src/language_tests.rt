@@ -327,7 +327,7 @@ fn texts_are_refused_at_their_place(rt: HostRuntime) -> Result<(), Fail> {
 }
 
 // The script that a text is.
-fn script_of(rt: &impl Abort, alloc: Global, text: &str) -> Result<Script, Fail> {
+pub fn script_of(rt: &impl Abort, alloc: Global, text: &str) -> Result<Script, Fail> {
     let bytes = text.as_bytes();
     assert!(rt; bytes.len() <= 1_048_576);
     let tokens = tokens_of(alloc, bytes)?;

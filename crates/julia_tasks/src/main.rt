@@ -2,6 +2,7 @@
 #![tactic(auto)]
 
 mod causes;
+mod command;
 mod fault;
 #[cfg(test)]
 mod language_tests;
@@ -11,6 +12,8 @@ mod report;
 mod run;
 #[cfg(test)]
 mod running_tests;
+#[cfg(test)]
+mod task_tests;
 #[cfg(test)]
 mod tests;
 mod tool;

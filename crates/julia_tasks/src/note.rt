@@ -38,6 +38,7 @@ pub fn brief_note(status: &Status) -> ArrayString<LONGEST_NOTE>
         }
         Status::ReadFault => note.push_str("reading failed"),
         Status::WriteFault => note.push_str("writing failed"),
+        Status::Deadlock => note.push_str("deadlock"),
         Status::EventLimit => note.push_str("event limit"),
         Status::OutOfMemory => note.push_str("out of memory"),
         Status::TooLarge => note.push_str("input too large"),

@@ -21,8 +21,11 @@ pub enum Refusal {
     TooDeep,
     /// The form of the script that begins here isn't built yet.
     NotBuilt,
-    /// The name here means nothing.
+    /// The name here means nothing, or a `$` stands here outside the body of a task.
     UnknownName,
+    /// A task's body uses a variable here that is not assigned just once before the body, or assigns
+    /// here to a variable of outside.
+    CapturedAssigned,
     /// A loop of the script assigns here to a variable of the script.
     AmbiguousGlobal,
     /// The function, constant or parameter here was made before.
@@ -30,9 +33,9 @@ pub enum Refusal {
     /// The call here has another number of arguments than its function takes.
     WrongCount,
     /// A function uses a variable of the script here, or a constant stands here that doesn't come
-    /// first, or that calls a function of the script or prints.
+    /// first, or that calls a function of the script, makes a task or prints.
     NoConstant,
-    /// The jump here leaves its function, its loop or the script.
+    /// The jump here leaves its function, its task's body, its loop, an `@sync` or the script.
     BadJump,
 }
 
@@ -50,6 +53,7 @@ impl Refusal {
             Refusal::TooDeep => "too-deep",
             Refusal::NotBuilt => "not-built",
             Refusal::UnknownName => "unknown-name",
+            Refusal::CapturedAssigned => "captured-assigned",
             Refusal::AmbiguousGlobal => "ambiguous-global",
             Refusal::TwiceDefined => "twice-defined",
             Refusal::WrongCount => "wrong-count",
@@ -74,6 +78,8 @@ pub enum Status {
     ReadFault,
     /// A write of the output failed.
     WriteFault,
+    /// The script's main task hasn't ended and no task can go on; all lines were written.
+    Deadlock,
     /// The script's main task hasn't ended at the limit on entries, and all lines were written.
     EventLimit,
     /// No memory was to be had. Nothing was written.
@@ -96,6 +102,7 @@ impl Status {
             Status::Refused(_, _) => 3,
             Status::ReadFault => 4,
             Status::WriteFault => 5,
+            Status::Deadlock => 6,
             Status::EventLimit => 7,
             Status::OutOfMemory => 8,
             Status::TooLarge => 9,

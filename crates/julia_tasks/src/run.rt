@@ -9,17 +9,16 @@ ghost use Rattle.jt_grammar.specs.Nesting.{TopsWithin};
 ghost use Rattle.jt_grammar.specs.Grammar.{EndsWithStop};
 ghost use Rattle.jt_forms.specs.Built.{unbuilt};
 ghost use Rattle.jt_lexer.specs.Tokens.{IsTokensOf};
-ghost use Rattle.jt_resolve.specs.Programs.{program_of};
 ghost use Rattle.jt_scopes.specs.Scripts.{BreaksNone};
 ghost use Rattle.jt_syntax.specs.View.{script_view};
-ghost use Rattle.julia_tasks.specs.Tool.{IsRunOf, Stops, StopsTokens, StopsScript, TellsFailure, most_script, most_open, default_seeds, default_limits, status_of_end};
+ghost use Rattle.julia_tasks.specs.Tool.{IsRunOf, run_with, Stops, StopsTokens, StopsScript, TellsFailure, most_script, most_open, default_seeds, status_of_end};
 
 use crate::note::failure_note;
 use crate::report::{Refusal, Status};
-use jt_base::{Entry, Limits, OutOfMemory, Seeds, Text};
+use jt_base::{Entry, Limits, OutOfMemory, Picks, Seeds, Sizes, Text};
 use jt_forms::unbuilt;
 use jt_lexer::lex;
-use jt_machine::{End, Run, lines, run_plain};
+use jt_machine::{End, Run, lines, run_on_one_worker};
 use jt_parser::parse;
 use jt_resolve::resolve;
 use jt_syntax::{Script, Token};
@@ -35,6 +34,13 @@ const DEFAULT_LIMITS: Limits = Limits {
     turns: 100_000_000,
     events: 262_144,
 };
+
+/// With how many workers a script is run, and by which picks its ready tasks are chosen.
+#[derive(Clone, Copy)]
+pub struct Way {
+    pub sizes: Sizes,
+    pub picks: u64,
+}
 
 /// A run, its lines, and the note of its main task where that failed.
 pub struct Ran {
@@ -79,25 +85,34 @@ fn script_of(alloc: Global, tokens: &[Token]) -> Result<Script, Status>
 }
 
 /// The run of a script.
-fn run_script(alloc: Global, script: Script) -> Result<Run, Status>
+fn run_script(alloc: Global, script: Script, way: Way) -> Result<Run, Status>
+    requires { 1 ≤ way.sizes.default }
     ensures named { IfOk result (λ run. BreaksNone (script_view script)) }
-    ensures run { IfOk result (λ run. IsRunOfProgram (program_of (script_view script)) default_seeds default_limits run.history.items run.end) }
+    ensures run { IfOk result (λ run. IsRunOfProgram (run_with way.sizes (script_view script)) default_seeds run.history.items run.end) }
     ensures refused { IfErr result (StopsScript (script_view script)) }
 {
     let program = resolve(alloc, script)?;
-    let run = run_plain(alloc, &program, &DEFAULT_SEEDS, &DEFAULT_LIMITS)?;
+    let run = run_on_one_worker(
+        alloc,
+        &program,
+        &DEFAULT_SEEDS,
+        way.sizes,
+        Picks::new(way.picks),
+        &DEFAULT_LIMITS,
+    )?;
     Ok(run)
 }
 
 /// The run of the script that these bytes are.
-fn run_of(alloc: Global, bytes: &[u8]) -> Result<Run, Status>
-    requires { length bytes.now ≤ most_script }
-    ensures run { IfOk result (λ run. IsRunOf bytes.now run.history.items run.end) }
+fn run_of(alloc: Global, bytes: &[u8], way: Way) -> Result<Run, Status>
+    requires short { length bytes.now ≤ most_script }
+    requires worker { 1 ≤ way.sizes.default }
+    ensures run { IfOk result (λ run. IsRunOf way.sizes bytes.now run.history.items run.end) }
     ensures refused { IfErr result (Stops bytes.now) }
 {
     let tokens = tokens_of(alloc, bytes)?;
     match script_of(alloc, tokens.as_slice()) {
-        Ok(script) => run_script(alloc, script),
+        Ok(script) => run_script(alloc, script, way),
         Err(status) => Err(status),
     }
 }
@@ -109,6 +124,7 @@ fn failure_of(alloc: Global, end: &End) -> Result<Text, OutOfMemory>
     match end {
         End::MainFailed(fault) => failure_note(alloc, fault),
         End::Ok => Ok(Text::from_string(String::new(alloc))),
+        End::Deadlock => Ok(Text::from_string(String::new(alloc))),
         End::EventLimit => Ok(Text::from_string(String::new(alloc))),
     }
 }
@@ -131,13 +147,14 @@ fn told(alloc: Global, run: Run) -> Result<Ran, OutOfMemory>
 }
 
 /// Runs the script that these bytes are.
-pub fn run_bytes(alloc: Global, bytes: &[u8]) -> Result<Ran, Status>
-    requires { length bytes.now ≤ most_script }
-    ensures run { IfOk result (λ ran. IsRunOf bytes.now ran.history.items ran.end) }
+pub fn run_bytes(alloc: Global, bytes: &[u8], way: Way) -> Result<Ran, Status>
+    requires short { length bytes.now ≤ most_script }
+    requires worker { 1 ≤ way.sizes.default }
+    ensures run { IfOk result (λ ran. IsRunOf way.sizes bytes.now ran.history.items ran.end) }
     ensures lines { IfOk result (λ ran. ran.lines ≡ lines_of ran.history.items) }
     ensures failure { IfOk result (λ ran. TellsFailure (status_of_end ran.end) ran.failure) }
     ensures refused { IfErr result (Stops bytes.now) }
 {
-    let run = run_of(alloc, bytes)?;
+    let run = run_of(alloc, bytes, way)?;
     Ok(told(alloc, run)?)
 }

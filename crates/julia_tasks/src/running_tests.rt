@@ -191,29 +191,29 @@ println(x); ) => unexpected at 12
 // Scripts that are read and don't run yet, and the place of their first such form.
 const UNBUILT: &str = "\
 c = Channel{Int64}() => not-built at 0
-println(1); t = @spawn 1 => not-built at 12
+println(1); t = @spawn :default 1 => not-built at 12
 println(1);; lock(x) => not-built at 13
-x = 1; println($x) => not-built at 7
+x = 1; t = @spawn :interactive $x => not-built at 7
 f() = take!(c) => not-built at 0
-function f(); yield(); end => not-built at 0
+function f(); reset(x); end => not-built at 0
 println(rand(Int64), 1) => not-built at 0
 rand(1:6) => not-built at 0
 for x in c; end => not-built at 0
 using Base.Threads; a = Atomic{Int64}(0) => not-built at 20
 const a = 1; const e = Event() => not-built at 13
-@sync 1 => not-built at 0
+@sync @async 1 => not-built at 0
 x = 1¶@async x => not-built at 6
 @threads for i in 1:2; end => not-built at 0
 a[] = 1 => not-built at 0
 println(a[]) => not-built at 0
 notify(c, all = true) => not-built at 0
-f(x) = if x; 1 elseif x; 2 else fetch(x) end => not-built at 0
+f(x) = if x; 1 elseif x; 2 else acquire(x) end => not-built at 0
 while true; isopen(c) || break; end => not-built at 0
-x = (1 + -(2 * (@spawn 3))) => not-built at 0
+x = (1 + -(2 * (@spawn rand(Int64)))) => not-built at 0
 ";
 
 // What a script answers: the exit status, its lines, and the text of the note.
-fn check(
+pub fn check(
     rt: &impl Abort,
     alloc: Global,
     script: &str,
@@ -242,7 +242,7 @@ fn check(
 }
 
 // Two texts, one behind the other.
-fn joined(alloc: Global, first: &str, second: &str) -> Result<String, Fail> {
+pub fn joined(alloc: Global, first: &str, second: &str) -> Result<String, Fail> {
     let mut text = String::from_str(alloc, first)?;
     text.push_str(second)?;
     Ok(text)
@@ -278,7 +278,7 @@ fn scripts_fail_by_their_fault(rt: HostRuntime) -> Result<(), Fail> {
 }
 
 // The refusals of a table, and how many they are.
-fn check_refusals(rt: &impl Abort, alloc: Global, table: &str) -> Result<u32, Fail> {
+pub fn check_refusals(rt: &impl Abort, alloc: Global, table: &str) -> Result<u32, Fail> {
     let mut rows: u32 = 0;
     for row in table.split('\n') {
         if let Some((script, reason)) = row.split_once(" => ") {

@@ -8,8 +8,8 @@ use Rattle.jt_step.proofs.machine.Machine.begin.Goals as goal
 
 pub returns-in_ok-push-in-Some : goal.returns-in_ok-push-in-Some
 returns-in_ok-push-in-Some c =
-    let is = slice_get-map body_plan c.args.functions.now c.in-Enter.f ∙ ap (option_map body_plan) (sym c.in-Some.ensures) in
-    rw c.in-Enter.is (call_begins _ _ _ _ _ (body_plan c.in-Some.body.now) _ is refl (rw c.in-Enter.is at c.requires) (rw (← c.replace-caller.ensures.value) c.in_ok-push-in-Some.ensures.items) (λ rs. rw (c.replace-caller.ensures.after, c.in_ok-variables-in-Some.ensures, c.as_slice.ensures)) refl)
+    let is = slice_get-map body_plan c.args.program.now.functions c.in-Enter.f ∙ ap (option_map body_plan) (sym (rw c.as_slice.ensures at c.in-Some.ensures)) in
+    rw c.in-Enter.is (call_begins _ _ _ _ _ (body_plan c.in-Some.body.now) _ is refl (rw c.in-Enter.is at c.requires) (rw (← c.replace-caller.ensures.value) c.in_ok-push-in-Some.ensures.items) (λ rs. rw (c.replace-caller.ensures.after, c.in_ok-variables-in-Some.ensures, c.as_slice-in-Some.ensures)) refl)
 
 pub returns-in_ok-mode-in-Again : goal.returns-in_ok-mode-in-Again
 returns-in_ok-mode-in-Again c = rw c.in-Again.is (c.in_ok-mode-in-Again.ensures _)

@@ -4,4 +4,4 @@ use Rattle.jt_step.proofs.Moves.{pushes}
 use Rattle.jt_step.proofs.machine.Machine.begin_with.Goals as goal
 
 pub returns : goal.returns
-returns c = λ functions. pushes functions _ _ _ _ _ _ c.in_ok-push.ensures.items (λ rs. refl) refl (λ s. refl) ((omega arith))
+returns c = λ program. pushes program _ _ _ _ _ _ c.in_ok-push.ensures.items (λ rs. refl) refl (λ s. refl) ((omega arith))

@@ -3,5 +3,5 @@ use Rattle.std.proofs.Common.{refl}
 use Rattle.jt_step.proofs.Resumes.{hands}
 use Rattle.jt_step.proofs.machine.Machine.fail.Goals as goal
 
-pub returns-in-Some : goal.returns-in-Some
-returns-in-Some c = λ functions. hands functions _ _ _ _ _ _ _ c.in-Some.ensures.items (λ fs s. refl) (λ rs. refl) refl refl (c.fail_to.ensures functions)
+pub returns-in_ok-mode-in-Some : goal.returns-in_ok-mode-in-Some
+returns-in_ok-mode-in-Some c = λ program. hands program _ _ _ _ _ _ _ c.in-Some.ensures.items (λ fs s. refl) (λ rs. refl) refl refl (c.in_ok-mode-in-Some.ensures program)

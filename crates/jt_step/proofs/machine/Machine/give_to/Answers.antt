@@ -5,44 +5,50 @@ use Rattle.jt_step.proofs.Moves.{gives_by}
 use Rattle.jt_step.proofs.machine.Machine.give_to.Goals as goal
 
 pub returns-in_ok-next_operand-in-Operands : goal.returns-in_ok-next_operand-in-Operands
-returns-in_ok-next_operand-in-Operands c = λ functions. gives_by functions _ _ _ _ _ _ _ (c.in_ok-next_operand-in-Operands.ensures functions) (λ s. rw c.in-Operands.is) (rw c.in-Operands.is (omega arith))
+returns-in_ok-next_operand-in-Operands c = λ program. gives_by program _ _ _ _ _ _ _ (c.in_ok-next_operand-in-Operands.ensures program) (λ s. rw c.in-Operands.is) (rw c.in-Operands.is (omega arith))
 
 pub returns-in_ok-give_operand-in-Operand : goal.returns-in_ok-give_operand-in-Operand
-returns-in_ok-give_operand-in-Operand c = λ functions. rw c.in-Operand.is (c.in_ok-give_operand-in-Operand.ensures functions)
+returns-in_ok-give_operand-in-Operand c = λ program. rw c.in-Operand.is (c.in_ok-give_operand-in-Operand.ensures program)
 
 pub returns-in_ok-next_comparison-in-Comparisons : goal.returns-in_ok-next_comparison-in-Comparisons
-returns-in_ok-next_comparison-in-Comparisons c = λ functions. gives_by functions _ _ _ _ _ _ _ (c.in_ok-next_comparison-in-Comparisons.ensures functions) (λ s. rw c.in-Comparisons.is) (rw c.in-Comparisons.is (omega arith))
+returns-in_ok-next_comparison-in-Comparisons c = λ program. gives_by program _ _ _ _ _ _ _ (c.in_ok-next_comparison-in-Comparisons.ensures program) (λ s. rw c.in-Comparisons.is) (rw c.in-Comparisons.is (omega arith))
 
 pub returns-in_ok-give_compared-in-Compared : goal.returns-in_ok-give_compared-in-Compared
-returns-in_ok-give_compared-in-Compared c = λ functions. rw c.in-Compared.is (c.in_ok-give_compared-in-Compared.ensures functions)
+returns-in_ok-give_compared-in-Compared c = λ program. rw c.in-Compared.is (c.in_ok-give_compared-in-Compared.ensures program)
 
 pub returns-in_ok-next_connected-in-Connection : goal.returns-in_ok-next_connected-in-Connection
-returns-in_ok-next_connected-in-Connection c = λ functions. gives_by functions _ _ _ _ _ _ _ (c.in_ok-next_connected-in-Connection.ensures functions) (λ s. rw c.in-Connection.is) (rw c.in-Connection.is (omega arith))
+returns-in_ok-next_connected-in-Connection c = λ program. gives_by program _ _ _ _ _ _ _ (c.in_ok-next_connected-in-Connection.ensures program) (λ s. rw c.in-Connection.is) (rw c.in-Connection.is (omega arith))
 
 pub returns-in_ok-give_condition-in-Choice : goal.returns-in_ok-give_condition-in-Choice
-returns-in_ok-give_condition-in-Choice c = λ functions. rw c.in-Choice.is (c.in_ok-give_condition-in-Choice.ensures functions)
+returns-in_ok-give_condition-in-Choice c = λ program. rw c.in-Choice.is (c.in_ok-give_condition-in-Choice.ensures program)
 
 pub returns-in_ok-next_part-in-Rest : goal.returns-in_ok-next_part-in-Rest
-returns-in_ok-next_part-in-Rest c = λ functions. gives_by functions _ _ _ _ _ _ _ (c.in_ok-next_part-in-Rest.ensures functions) (λ s. rw c.in-Rest.is) (rw c.in-Rest.is (omega arith))
+returns-in_ok-next_part-in-Rest c = λ program. gives_by program _ _ _ _ _ _ _ (c.in_ok-next_part-in-Rest.ensures program) (λ s. rw c.in-Rest.is) (rw c.in-Rest.is (omega arith))
 
 pub returns-in-Condition : goal.returns-in-Condition
-returns-in-Condition c = λ functions. rw (c.in-Condition.is, c.turn_of.ensures) (turn_hands functions _ _ _ _ _ _)
+returns-in-Condition c = λ program. rw (c.in-Condition.is, c.turn_of.ensures) (turn_hands program _ _ _ _ _ _)
 
 pub returns-in_ok-begin_with-in-Low : goal.returns-in_ok-begin_with-in-Low
-returns-in_ok-begin_with-in-Low c = λ functions. gives_by functions _ _ _ _ _ _ _ (c.in_ok-begin_with-in-Low.ensures functions) (λ s. rw c.in-Low.is) (rw c.in-Low.is (omega arith))
+returns-in_ok-begin_with-in-Low c = λ program. gives_by program _ _ _ _ _ _ _ (c.in_ok-begin_with-in-Low.ensures program) (λ s. rw c.in-Low.is) (rw c.in-Low.is (omega arith))
 
 pub returns-in-High : goal.returns-in-High
-returns-in-High c = λ functions. rw (c.in-High.is, c.turns_between.ensures) (bounds_hands functions _ _ _ _ _ _)
+returns-in-High c = λ program. rw (c.in-High.is, c.turns_between.ensures) (bounds_hands program _ _ _ _ _ _)
 
 pub returns-in_ok-go_on-in-Loop : goal.returns-in_ok-go_on-in-Loop
-returns-in_ok-go_on-in-Loop c = λ functions. record {
-  same = λ rs. rw c.in-Loop.is (c.in_ok-go_on-in-Loop.ensures.same functions rs);
+returns-in_ok-go_on-in-Loop c = λ program. record {
+  same = λ rs. rw c.in-Loop.is (c.in_ok-go_on-in-Loop.ensures.same program rs);
   less = rw c.in-Loop.is c.in_ok-go_on-in-Loop.ensures.less;
   turns = c.in_ok-go_on-in-Loop.ensures.turns;
 }
 
 pub returns-in_ok-next_argument-in-Arguments : goal.returns-in_ok-next_argument-in-Arguments
-returns-in_ok-next_argument-in-Arguments c = λ functions. gives_by functions _ _ _ _ _ _ _ (c.in_ok-next_argument-in-Arguments.ensures functions) (λ s. rw (c.in-Arguments.is, c.in_ok-push-in-Arguments.ensures.ok)) (rw c.in-Arguments.is (omega arith))
+returns-in_ok-next_argument-in-Arguments c = λ program. gives_by program _ _ _ _ _ _ _ (c.in_ok-next_argument-in-Arguments.ensures program) (λ s. rw (c.in-Arguments.is, c.in_ok-push-in-Arguments.ensures.ok)) (rw c.in-Arguments.is (omega arith))
 
 pub returns-in_ok-next_piece-in-Pieces : goal.returns-in_ok-next_piece-in-Pieces
-returns-in_ok-next_piece-in-Pieces c = λ functions. gives_by functions _ _ _ _ _ _ _ (c.in_ok-next_piece-in-Pieces.ensures functions) (λ s. rw (c.in-Pieces.is, c.in_ok-push_value-in-Pieces.ensures)) (rw c.in-Pieces.is (omega arith))
+returns-in_ok-next_piece-in-Pieces c = λ program. gives_by program _ _ _ _ _ _ _ (c.in_ok-next_piece-in-Pieces.ensures program) (λ s. rw (c.in-Pieces.is, c.in_ok-push_value-in-Pieces.ensures)) (rw c.in-Pieces.is (omega arith))
+
+pub returns-in_ok-end_sync-in-Sync : goal.returns-in_ok-end_sync-in-Sync
+returns-in_ok-end_sync-in-Sync c = λ program. gives_by program _ _ _ _ _ _ _ (c.in_ok-end_sync-in-Sync.ensures program) (λ s. rw c.in-Sync.is) (rw c.in-Sync.is (omega arith))
+
+pub returns-in_ok-next_wait-in-Waiting : goal.returns-in_ok-next_wait-in-Waiting
+returns-in_ok-next_wait-in-Waiting c = λ program. gives_by program _ _ _ _ _ _ _ (c.in_ok-next_wait-in-Waiting.ensures program) (λ s. rw c.in-Waiting.is) (rw c.in-Waiting.is (omega arith))

@@ -7,7 +7,7 @@ use Rattle.jt_step.proofs.Weights.{weight_push}
 use Rattle.jt_step.proofs.machine.Machine.go_on.Goals as goal
 
 pub returns-in_ok-push-in-While-clause-same : goal.returns-in_ok-push-in-While-clause-same
-returns-in_ok-push-in-While-clause-same c = λ functions rs. while_on functions _ _ _ _ _ _ _ _ c.in-While.is c.in_ok-push-in-While.ensures.items
+returns-in_ok-push-in-While-clause-same c = λ program rs. while_on program _ _ _ _ _ _ _ _ c.in-While.is c.in_ok-push-in-While.ensures.items
 
 pub returns-in_ok-push-in-While-clause-less : goal.returns-in_ok-push-in-While-clause-less
 returns-in_ok-push-in-While-clause-less c = rw (c.in_ok-push-in-While.ensures.items, weight_push, c.in-While.is) (omega arith)
@@ -17,7 +17,7 @@ returns-in-Range-clause-same c =
     let fi : SFits w64 c.in-Range.i = search rules in
     let fl : SFits w64 c.in-Range.last = search rules in
     let h = simp to_z-of_z at c.next_number.ensures in
-    λ functions rs. rw h (range_on functions c.args.self.now.frames.items _ _ _ _ _ _ (state_of c.args.self.now rs) c.in-Range.is)
+    λ program rs. rw h (range_on program c.args.self.now.frames.items _ _ _ _ _ _ (state_of c.args.self.now rs) c.in-Range.is)
 
 pub returns-in-Range-clause-less : goal.returns-in-Range-clause-less
 returns-in-Range-clause-less c = rw (c.next_number.ensures, c.in-Range.is) (omega (arith, range_light))

@@ -4,4 +4,4 @@ use Rattle.jt_step.proofs.Moves.{pushes}
 use Rattle.jt_step.proofs.machine.Machine.next_comparison.Goals as goal
 
 pub returns-in_ok-push-in-Some : goal.returns-in_ok-push-in-Some
-returns-in_ok-push-in-Some c = λ functions. pushes functions _ _ _ _ _ _ c.in_ok-push-in-Some.ensures.items (λ rs. refl) refl (λ s. rw c.in-Some.ensures) (rw c.in-Some.ensures (omega arith))
+returns-in_ok-push-in-Some c = λ program. pushes program _ _ _ _ _ _ c.in_ok-push-in-Some.ensures.items (λ rs. refl) refl (λ s. rw c.in-Some.ensures) (rw c.in-Some.ensures (omega arith))

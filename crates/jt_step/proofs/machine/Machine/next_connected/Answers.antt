@@ -20,4 +20,4 @@ proceeds connective.Or false k s h = refl
 pub returns-in_ok-push-in-Flag : goal.returns-in_ok-push-in-Flag
 returns-in_ok-push-in-Flag c =
     let h = rw c.asking.ensures at c.if-flag-asking.true in
-    λ functions. pushes functions _ _ _ _ _ _ c.in_ok-push-in-Flag.ensures.items (λ rs. refl) refl (λ s. rw (c.in-Some.ensures, c.in-Flag.is) (proceeds c.args.connective c.in-Flag.flag _ s h)) (rw c.in-Some.ensures (omega arith))
+    λ program. pushes program _ _ _ _ _ _ c.in_ok-push-in-Flag.ensures.items (λ rs. refl) refl (λ s. rw (c.in-Some.ensures, c.in-Flag.is) (proceeds c.args.connective c.in-Flag.flag _ s h)) (rw c.in-Some.ensures (omega arith))

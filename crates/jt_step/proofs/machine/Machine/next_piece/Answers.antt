@@ -6,4 +6,4 @@ use Rattle.jt_step.proofs.machine.Machine.next_piece.Goals as goal
 pub returns-in_ok-push-in-Some : goal.returns-in_ok-push-in-Some
 returns-in_ok-push-in-Some c =
     let w = rw c.in-Some.is at c.in_ok-e.ensures.lighter in
-    λ functions. pushes functions _ _ _ _ _ _ c.in_ok-push-in-Some.ensures.items (λ rs. refl) refl (λ s. rw c.in-Some.is at (c.in_ok-e.ensures.same functions s)) (omega (arith, w))
+    λ program. pushes program _ _ _ _ _ _ c.in_ok-push-in-Some.ensures.items (λ rs. refl) refl (λ s. rw c.in-Some.is at (c.in_ok-e.ensures.same program s)) (omega (arith, w))

@@ -1,13 +1,13 @@
 -- The machine does what it did at the beginning, with less and less work.
-use Rattle.std.proofs.Common.{◌≡◌, List, map}
+use Rattle.std.proofs.Common.{◌≡◌, List}
 use Rattle.jt_base.specs.declared.operation.Reply.{Reply}
-use Rattle.jt_program.specs.View.{body_plan}
+use Rattle.jt_program.specs.View.{program_plan}
 use Rattle.jt_step.specs.Stack.{at, work}
 use Rattle.jt_step.proofs.machine.Machine.settle.Given as goal
 
 abbrev pub invariant-moves : goal.invariant-moves
 invariant-moves l = record {
-  same : (rs : List Reply) → at (map body_plan l.functions) l.self l.mode rs ≡ at (map body_plan l.functions) l.fn.self l.fn.mode rs;
+  same : (rs : List Reply) → at (program_plan l.program) l.self l.mode rs ≡ at (program_plan l.program) l.fn.self l.fn.mode rs;
   turns : l.self.turns ≡ l.fn.self.turns;
 }
 

@@ -1,29 +1,47 @@
 -- The machine goes on, and tells what comes next.
-use Rattle.std.proofs.Common.{◌≡◌, ◌++◌, [], List, map, refl, sym, ap, ◌∙◌, append-nil}
-use Rattle.jt_program.specs.View.{body_plan, program_plan}
+use Rattle.std.proofs.Common.{◌≡◌, [], map, refl, ap, ◌∙◌, append-nil, Some}
+use Rattle.jt_base.specs.declared.operation.Op.{Op}
+use Rattle.jt_base.specs.Coming.{op_of}
+use Rattle.jt_base.specs.Jobs.{note_reply}
+use Rattle.jt_program.specs.View.{program_plan}
 use Rattle.jt_step.specs.Meaning.{task}
+use Rattle.jt_step.specs.Laws.{goes_on, spawned_body, spawned_how, task_operation}
 use Rattle.jt_step.specs.Task.{seen}
-use Rattle.jt_step.specs.Tasks.{reply_of_note}
-use Rattle.jt_step.proofs.Laws.{goes_on}
-use Rattle.jt_step.proofs.Tells.{run_says, needs_comes}
+use Rattle.jt_step.specs.Tasks.{coming, told}
+use Rattle.jt_step.proofs.Tells.{run_says, told_comes}
 use Rattle.jt_step.proofs.task.TaskRun.advance.Goals as goal
 
 pub returns-clause-ok : goal.returns-clause-ok
 returns-clause-ok c =
     let f = c.if-self.false in
     let i = c.self.inside in
-    let same = c.self.invariant.same f [] ∙ ap (task (program_plan i.program.now) i.limit i.start.code) (append-nil (map reply_of_note i.log.items)) in
-    let runs = rw (c.replace-mode.ensures.value, c.as_slice.ensures, c.as_slice-2.ensures.value) at c.in_ok-mode.ensures in
+    let same = c.self.invariant.same f [] ∙ ap (task (program_plan i.program.now) i.limits.turns i.path i.start) (append-nil (map note_reply i.log.items)) in
+    let runs = rw (c.replace-mode.ensures.value, c.as_slice.ensures.value) at c.in_ok-mode.ensures in
     rw (← c.self.view_is) (record {
       kept = rw f refl;
-      says = run_says (map body_plan i.program.now.functions) i.machine c.run_on.new.self i.mode c.in_ok-mode.mode (seen i) i.used c.in_ok-mode.used c.args.turns _ (c.self.invariant.few f) refl same runs c.in_ok-told.ensures;
+      says = run_says (program_plan i.program.now) i.machine c.run_on.new.self i.mode c.in_ok-mode.mode (seen i) i.used c.in_ok-mode.used c.args.turns _ (c.self.invariant.few f) refl same runs c.in_ok-told.ensures;
     })
 
 pub returns-clause-goes_on : goal.returns-clause-goes_on
-returns-clause-goes_on c = λ op r told can.
+returns-clause-goes_on c = λ op r tells can.
     let f = c.if-self.false in
     let i = c.self.inside in
-    let same = c.self.invariant.same f [] ∙ ap (task (program_plan i.program.now) i.limit i.start.code) (append-nil (map reply_of_note i.log.items)) in
-    let runs = rw (c.replace-mode.ensures.value, c.as_slice.ensures, c.as_slice-2.ensures.value) at c.in_ok-mode.ensures in
-    let comes = needs_comes (map body_plan i.program.now.functions) i.machine c.run_on.new.self i.mode c.in_ok-mode.mode (seen i) i.used c.in_ok-mode.used c.args.turns _ op same runs c.in_ok-told.ensures told in
-    goes_on (program_plan i.program.now) i.limit [] i.start (map reply_of_note i.log.items) op r comes can
+    let same = c.self.invariant.same f [] ∙ ap (task (program_plan i.program.now) i.limits.turns i.path i.start) (append-nil (map note_reply i.log.items)) in
+    let runs = rw (c.replace-mode.ensures.value, c.as_slice.ensures.value) at c.in_ok-mode.ensures in
+    let comes = told_comes (program_plan i.program.now) i.machine c.run_on.new.self i.mode c.in_ok-mode.mode (seen i) i.used c.in_ok-mode.used c.args.turns _ op same runs c.in_ok-told.ensures tells in
+    goes_on (program_plan i.program.now) i.limits.turns i.path i.start (map note_reply i.log.items) op r (ap op_of comes ∙ tells) can
+
+pub returns-clause-asks_well : goal.returns-clause-asks_well
+returns-clause-asks_well c =
+    let f = c.if-self.false in
+    let i = c.self.inside in
+    let p = program_plan i.program.now in let log = map note_reply i.log.items in
+    let same = c.self.invariant.same f [] ∙ ap (task p i.limits.turns i.path i.start) (append-nil log) in
+    let runs = rw (c.replace-mode.ensures.value, c.as_slice.ensures.value) at c.in_ok-mode.ensures in
+    let comes : (op : Op) → op_of (told c.in_ok-told.told) ≡ Some op → coming (seen i) ≡ told c.in_ok-told.told =
+    λ op tells. told_comes p i.machine c.run_on.new.self i.mode c.in_ok-mode.mode (seen i) i.used c.in_ok-mode.used c.args.turns _ op same runs c.in_ok-told.ensures tells in
+    record {
+      asks = λ op tells. task_operation p i.limits.turns i.path i.start log op (ap op_of (comes op tells) ∙ tells);
+      body = λ op child tells. spawned_body p i.limits.turns i.path i.start log op child (comes op (ap op_of tells) ∙ tells);
+      how = λ op child tells. spawned_how p i.limits.turns i.path i.start log op child (comes op (ap op_of tells) ∙ tells);
+    }

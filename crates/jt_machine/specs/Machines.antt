@@ -1,0 +1,125 @@
+-- The machine: the shards with the jobs that wait, and the jobs that don't.
+use Rattle.std.specs.Prelude.{◌≡◌, ℕ, zero, suc, ◌+◌, ◌-◌, ◌<◌, ◌≤◌, ◌⊎◌, List, [], ◌∷◌, ◌++◌, Some, true, false, map, length, get_or, slice_get}
+use Rattle.std.specs.List.{All}
+use Rattle.jt_base.specs.declared.entry.Entry.{Entry}
+use Rattle.jt_base.specs.declared.operation.Op.{Op}
+use Rattle.jt_base.specs.declared.operation.Op.TheVariants as op
+use Rattle.jt_base.specs.declared.run.Seeds.{Seeds}
+use Rattle.jt_base.specs.declared.value.Value.{Value}
+use Rattle.jt_base.specs.Coming.{op_of}
+use Rattle.jt_base.specs.Jobs.{Held}
+use Rattle.jt_base.specs.Names as names
+use Rattle.jt_laws.specs.Entries.{shard, shard_of_object, In}
+use Rattle.jt_laws.specs.Lines.{is_main_end}
+use Rattle.jt_laws.specs.Seats.{may_work}
+use Rattle.jt_laws.specs.Histories.{World}
+use Rattle.jt_histories.specs.Jobs.{Has, Holds, last_entry}
+use Rattle.jt_histories.specs.Rest.{AllStuck, AtLimit}
+use Rattle.jt_program.specs.View.{program_plan}
+use Rattle.jt_shard.specs.Shards.{ShardState, empty_shard, object_for, IsSettled}
+use Rattle.jt_step.specs.declared.start.Start.{Start}
+use Rattle.jt_step.specs.Tasks.{Run, Task, told_of, coming}
+use Rattle.jt_machine.specs.declared.run.End.{End}
+use Rattle.jt_machine.specs.declared.run.End.TheVariants.{Ok, MainFailed, Deadlock, EventLimit}
+use Rattle.jt_machine.specs.declared.setting.Setting.{Setting}
+use Rattle.jt_machine.specs.Runs.{world_of}
+
+-- what the tasks have in common
+abbrev pub run_of : Setting → Run
+run_of s = record { program = program_plan s.program.now; sizes = s.sizes; limits = s.limits }
+
+-- ---- the shards
+
+-- the first n of them, without entries
+abbrev pub first_shards : ℕ → ℕ → List (ShardState Task)
+first_shards zero events = []
+first_shards (suc n) events = first_shards n events ++ empty_shard n events ∷ []
+
+abbrev pub logs_of : List (ShardState Task) → List (List Entry)
+logs_of shards = map (λ s. s.log) shards
+
+-- the jobs that wait
+abbrev pub waiting_in : List (ShardState Task) → List Task
+waiting_in [] = []
+waiting_in (s ∷ ss) = map (λ w. w.0) s.waiting ++ waiting_in ss
+
+-- no waiting job's operation is allowed, at any shard, or at any but one
+abbrev pub AreSettled : List (ShardState Task) → Type 0
+AreSettled shards = (k : ℕ) (s : ShardState Task) → slice_get shards k ≡ Some s → IsSettled told_of s
+
+abbrev pub SettledBut : ℕ → List (ShardState Task) → Type 0
+SettledBut n shards = (k : ℕ) (s : ShardState Task) → slice_get shards k ≡ Some s → (k ≡ n → ⊥) → IsSettled told_of s
+
+-- ---- the jobs
+
+-- a job of the run: an operation comes next for it, and worker 0 may make its entry
+pub record IsJob (run : Run) (t : Task) : Type 0 where
+  pub of_run : t.run ≡ run
+  pub comes : (op : Op) × (op_of (coming t) ≡ Some op)
+  pub works : may_work run.sizes t.seat 0 ≡ true
+
+-- it waits with the operation that comes next, at the shard of the operation's object
+pub record Waits (run : Run) (k : ℕ) (w : Task × Op) : Type 0 where
+  pub job : IsJob run w.0
+  pub comes : op_of (coming w.0) ≡ Some w.1
+  pub here : shard_of_object (object_for told_of w.0 w.1) ≡ k
+
+-- a shard of the run
+pub record IsShard (run : Run) (k : ℕ) (s : ShardState Task) : Type 0 where
+  pub number : s.number ≡ k
+  pub events : s.events ≡ run.limits.events
+  pub waiting : All (Waits run k) s.waiting
+
+-- ---- main's end
+
+-- main hasn't ended
+abbrev pub MainGoesOn : List (List Entry) → Type 0
+MainGoesOn logs = (k : ℕ) (e : Entry) → In e (get_or logs k []) → is_main_end e ≡ false
+
+-- main has ended by this operation
+pub record MainEnds (logs : List (List Entry)) (op : Op) : Type 0 where
+  pub only : (k : ℕ) (e : Entry) → In e (get_or logs k []) → is_main_end e ≡ true → e.op ≡ op
+  pub entry : Entry
+  pub there : In entry (get_or logs (shard entry) [])
+  pub ends : is_main_end entry ≡ true
+
+-- ---- the whole
+
+-- amid the run; `jobs` are those that don't wait
+pub record Runs (run : Run) (seeds : Seeds) (shards : List (ShardState Task)) (jobs : List Task) : Type 0 where
+  pub sixteen : length shards ≡ names.shards
+  pub worker : 1 ≤ run.sizes.default
+  pub each_shard : (k : ℕ) (s : ShardState Task) → slice_get shards k ≡ Some s → IsShard run k s
+  pub each_job : All (IsJob run) jobs
+  pub holds : Holds Start (world_of run seeds) (logs_of shards) (map told_of (jobs ++ waiting_in shards))
+  pub goes_on : MainGoesOn (logs_of shards)
+
+-- why it ends, said of the shards' logs and of the jobs
+abbrev pub EndsBy : World Start → List (List Entry) → List (Held Start) → End → Type 0
+EndsBy world logs jobs Ok = (value : Value) × MainEnds logs (op.End value)
+EndsBy world logs jobs (MainFailed fault) = MainEnds logs (op.Fail fault)
+EndsBy world logs jobs Deadlock = MainGoesOn logs × AllStuck Start world logs jobs
+EndsBy world logs jobs EventLimit =
+    MainGoesOn logs × (j : Held Start) × (e : Entry) × Has Start j jobs × AtLimit Start world (get_or logs (shard e) []) j e
+
+-- at the end of the run
+pub record Ended (run : Run) (seeds : Seeds) (shards : List (ShardState Task)) (end : End) : Type 0 where
+  pub jobs : List (Held Start)
+  pub holds : Holds Start (world_of run seeds) (logs_of shards) jobs
+  pub ends : EndsBy (world_of run seeds) (logs_of shards) jobs end
+
+-- ---- what is left to do
+
+-- how many stamps may still be given
+abbrev pub stamps_left : List (ShardState Task) → ℕ
+stamps_left [] = 0
+stamps_left (s ∷ ss) = (s.events - last_entry s.log) + stamps_left ss
+
+abbrev pub jobs_in : List (ShardState Task) → List Task → ℕ
+jobs_in shards jobs = length (jobs ++ waiting_in shards)
+
+-- From these shards, these jobs and so many that are ready: as many jobs came as stamps were given or
+-- fewer; and stamps were given, or no more jobs are ready than before.
+pub record Falls (shards : List (ShardState Task)) (jobs : List Task) (ready : ℕ) (shards' : List (ShardState Task)) (jobs' : List Task) (ready' : ℕ) : Type 0 where
+  pub total : stamps_left shards' + jobs_in shards' jobs' ≤ stamps_left shards + jobs_in shards jobs
+  pub fewer : (stamps_left shards' < stamps_left shards) ⊎ ((stamps_left shards' ≡ stamps_left shards) × (ready' ≤ ready))

@@ -1,0 +1,257 @@
+//! The one-thread machine: sixteen shards, and the jobs that are ready.
+
+ghost use Rattle.std.specs.Prelude.{◌≡◌, ◌<◌, ◌≤◌, List, [], ◌∷◌, true, length, MatchOption, IfOk, OnOk};
+ghost use Rattle.std.specs.List.Sorted.{IsPermutation};
+ghost use Rattle.jt_base.specs.declared.entry.Entry.{Entry as EntryOf};
+ghost use Rattle.jt_base.specs.Coming.{is_spawn};
+ghost use Rattle.jt_histories.specs.Kept.{made_path};
+ghost use Rattle.jt_histories.specs.Merges.{AreLogs, IsMerge};
+ghost use Rattle.jt_laws.specs.Lines.{cut_at_main_end};
+ghost use Rattle.jt_step.specs.Tasks.{new_task};
+ghost use Rattle.jt_machine.specs.Machines.{run_of, first_shards, logs_of, Runs, AreSettled, SettledBut, Ended};
+ghost use Rattle.jt_machine.specs.Turns.{Asks, Replied, Turns, Serves, Followed, WakesAll, Leaves};
+
+use crate::run::End;
+use crate::setting::Setting;
+use crate::turn::{Follows, Turn, what_follows};
+use jt_base::{Entry, Job, Op, OutOfMemory, Path, Picks, Pool};
+use jt_histories::{cut_at_main_end, merge, shard_of};
+use jt_shard::{Applied, Shard};
+use jt_step::{Advance, Start, TaskRun};
+use sqlite_items::{Boxed, Items};
+use std::alloc::Global;
+
+/// The number of shards.
+const SHARDS: u32 = 16;
+
+/// The shards with the jobs that wait, and the jobs that don't.
+#[derive(Drop)]
+pub(crate) struct Machine<'p> {
+    /// The k-th has the number k.
+    shards: Vec<Shard<TaskRun<'p>>>,
+    /// In the order in which they became ready.
+    ready: Items<Boxed<TaskRun<'p>>>,
+}
+
+/// Sixteen shards without entries.
+fn empty_shards<'p>(alloc: Global, events: u32) -> Result<Vec<Shard<TaskRun<'p>>>, OutOfMemory>
+    ensures { IfOk result (λ shards. shards.items ≡ first_shards 16 events) }
+{
+    let mut shards = Vec::new(alloc);
+    for number in 0..SHARDS {
+        shards.push(Shard::new(alloc, number, events))?;
+    }
+    Ok(shards)
+}
+
+impl<'p> Machine<'p> {
+    /// The machine at the beginning: the main task is ready.
+    ///
+    /// # Errors
+    ///
+    /// Where memory is wanting.
+    pub(crate) fn start(setting: &Setting<'p>) -> Result<Machine<'p>, OutOfMemory>
+        requires main { 0 < length setting.now.program.now.tasks }
+        requires worker { 1 ≤ setting.now.sizes.default }
+        ensures runs { IfOk result (λ m. Runs (run_of setting.now) setting.now.seeds m.shards.items m.ready) }
+        ensures settled { IfOk result (λ m. AreSettled m.shards.items) }
+    {
+        let shards = empty_shards(setting.alloc, setting.limits.events)?;
+        let start = Start::main(setting.alloc, &setting.seeds)?;
+        let main = TaskRun::start(
+            setting.alloc,
+            setting.program,
+            start,
+            Path::main(),
+            setting.sizes,
+            &setting.limits,
+            Pool::Default,
+        )?;
+        let mut ready = Items::new(setting.alloc);
+        ready.push(Boxed::new(setting.alloc, main)?)?;
+        Ok(Machine { shards, ready })
+    }
+
+    /// Runs the jobs that are ready, slice by slice, until the run ends.
+    ///
+    /// # Errors
+    ///
+    /// Where memory is wanting.
+    pub(crate) fn run(&mut self, setting: &Setting<'p>, picks: Picks) -> Result<End, OutOfMemory>
+        requires runs { Runs (run_of setting.now) setting.now.seeds self.old.shards.items self.old.ready }
+        requires settled { AreSettled self.old.shards.items }
+        ensures { IfOk result (λ end. Ended (run_of setting.now) setting.now.seeds self.new.shards.items end) }
+    {
+        let mut picks = picks;
+        'slices: loop {
+            let Some(job) = self.pick(&mut picks) else {
+                return Ok(End::Deadlock);
+            };
+            if let Some(end) = self.slice(setting, job)? {
+                return Ok(end);
+            }
+        }
+    }
+
+    /// Takes one of the jobs that are ready, as the next word of the picks says. None where none is
+    /// ready.
+    fn pick(&mut self, picks: &mut Picks) -> Option<TaskRun<'p>>
+        ensures shards { self.new.shards ≡ self.old.shards }
+        ensures ready { MatchOption result ((self.old.ready ≡ []) × (self.new.ready ≡ [])) (λ job. IsPermutation self.old.ready (job ∷ self.new.ready)) }
+    {
+        let number = self.ready.len();
+        if number == 0 {
+            return None;
+        }
+        let most = u32::try_from(number).unwrap_or(u32::MAX);
+        let picked = picks.below(most) as usize;
+        Some(self.ready.remove(picked).into_inner())
+    }
+
+    /// A job's slice: it goes on until it waits, yields, or its task is over. What the run comes to,
+    /// where it ends.
+    fn slice(&mut self, setting: &Setting<'p>, job: TaskRun<'p>) -> Result<Option<End>, OutOfMemory>
+        requires runs { Runs (run_of setting.now) setting.now.seeds self.old.shards.items (job ∷ self.old.ready) }
+        requires settled { AreSettled self.old.shards.items }
+        ensures { IfOk result (λ end. MatchOption end (Leaves (run_of setting.now) setting.now.seeds self.old.shards.items self.old.ready job.entry self.new.shards.items self.new.ready (length self.new.ready)) (λ e. Ended (run_of setting.now) setting.now.seeds self.new.shards.items e)) }
+    {
+        let mut job = job;
+        'turns: loop {
+            match self.turn(setting, job)? {
+                Turn::GoesOn(same) => job = same,
+                Turn::Left => return Ok(None),
+                Turn::Ended(end) => return Ok(Some(end)),
+            }
+        }
+    }
+
+    /// A job goes on up to its next operation, or by as many turns as one advance can take.
+    fn turn(&mut self, setting: &Setting<'p>, job: TaskRun<'p>) -> Result<Turn<'p>, OutOfMemory>
+        requires runs { Runs (run_of setting.now) setting.now.seeds self.old.shards.items (job ∷ self.old.ready) }
+        requires settled { AreSettled self.old.shards.items }
+        ensures { IfOk result (λ turn. Turns (run_of setting.now) setting.now.seeds self.old.shards.items self.old.ready job.entry turn self.new.shards.items self.new.ready) }
+    {
+        let mut job = job;
+        match job.advance(u32::MAX)? {
+            Advance::More => Ok(Turn::GoesOn(job)),
+            Advance::Needs(op) => {
+                let follows = what_follows(setting.alloc, job.path(), &op)?;
+                self.serve(setting, job, op, follows)
+            }
+            Advance::Spawns(op, start) => {
+                let child = child(setting, &job, &op, start)?;
+                self.serve(setting, job, op, Follows::Makes(child))
+            }
+            Advance::Over => unreachable!(),
+        }
+    }
+
+    /// Asks the shard of a job's operation: the job waits there where the operation isn't allowed.
+    fn serve(
+        &mut self,
+        setting: &Setting<'p>,
+        job: TaskRun<'p>,
+        op: Op,
+        follows: Follows<'p>,
+    ) -> Result<Turn<'p>, OutOfMemory>
+        requires runs { Runs (run_of setting.now) setting.now.seeds self.old.shards.items (job ∷ self.old.ready) }
+        requires settled { AreSettled self.old.shards.items }
+        requires asks { Asks (run_of setting.now) job op follows }
+        ensures { IfOk result (λ turn. Serves (run_of setting.now) setting.now.seeds self.old.shards.items self.old.ready job.entry turn self.new.shards.items self.new.ready) }
+    {
+        let mut job = job;
+        let k = shard_of(job.path(), &op) as usize;
+        self.shards[k].reserve(&mut job, &op)?;
+        match self.shards[k].apply(&mut job, op, 0) {
+            Applied::Done(_) => self.follow(setting, k, job, follows),
+            Applied::NotYet(op) => {
+                self.shards[k].park(job, op);
+                Ok(Turn::Left)
+            }
+            Applied::StampLimit(_) => Ok(Turn::Ended(End::EventLimit)),
+        }
+    }
+
+    /// An operation of a job has its reply: the jobs that it wakes become ready, and the job goes on
+    /// as it has to.
+    fn follow(
+        &mut self,
+        setting: &Setting<'p>,
+        k: usize,
+        job: TaskRun<'p>,
+        follows: Follows<'p>,
+    ) -> Result<Turn<'p>, OutOfMemory>
+        requires there { k < length self.old.shards.items }
+        requires replied { Replied (run_of setting.now) setting.now.seeds self.old.shards.items self.old.ready job follows }
+        requires settled { SettledBut k self.old.shards.items }
+        ensures { IfOk result (λ turn. Followed (run_of setting.now) setting.now.seeds self.old.shards.items self.old.ready job.entry follows.entry turn self.new.shards.items self.new.ready) }
+    {
+        self.wake(setting.alloc, k)?;
+        match follows {
+            Follows::Ends(end) => Ok(Turn::Ended(end)),
+            Follows::Over => Ok(Turn::Left),
+            Follows::Yields => {
+                self.ready.push(Boxed::new(setting.alloc, job)?)?;
+                Ok(Turn::Left)
+            }
+            Follows::GoesOn => Ok(Turn::GoesOn(job)),
+            Follows::Makes(child) => {
+                self.ready.push(Boxed::new(setting.alloc, child)?)?;
+                Ok(Turn::GoesOn(job))
+            }
+        }
+    }
+
+    /// The waiting jobs of a shard whose operations are allowed become ready.
+    fn wake(&mut self, alloc: Global, k: usize) -> Result<(), OutOfMemory>
+        requires { k < length self.old.shards.items }
+        ensures { OnOk result (WakesAll k self.old.shards.items self.old.ready self.new.shards.items self.new.ready) }
+    {
+        while let Some((job, op)) = self.shards[k].next_woken() {
+            // the job tells it again
+            drop(op);
+            self.ready.push(Boxed::new(alloc, job)?)?;
+        }
+        Ok(())
+    }
+
+    /// The entries of all shards in the order of stamp, then shard, up to and with main's end.
+    pub(crate) fn into_history(self, alloc: Global) -> Result<Vec<Entry>, OutOfMemory>
+        requires { AreLogs (logs_of self.shards.items) }
+        ensures { IfOk result (λ h. (all : List EntryOf) × IsMerge (logs_of self.entry.shards.items) all × (h.items ≡ cut_at_main_end all)) }
+    {
+        let Machine { shards, ready: _ } = self;
+        let mut logs = Vec::new(alloc);
+        for shard in shards {
+            let (log, _jobs) = shard.into_parts();
+            logs.push(log)?;
+        }
+        let history = merge(alloc, logs)?;
+        Ok(cut_at_main_end(history))
+    }
+}
+
+/// The task that a job's spawn makes.
+fn child<'p>(
+    setting: &Setting<'p>,
+    job: &TaskRun<'p>,
+    op: &Op,
+    start: Start,
+) -> Result<TaskRun<'p>, OutOfMemory>
+    requires spawn { is_spawn op.now ≡ true }
+    requires body { start.code < length setting.now.program.now.tasks }
+    ensures { IfOk result (λ child. child ≡ new_task (run_of setting.now) (made_path op.now) start job.now.seat.pool) }
+{
+    match op {
+        Op::Spawn(path, _) => TaskRun::start(
+            setting.alloc,
+            setting.program,
+            start,
+            path.copy(),
+            setting.sizes,
+            &setting.limits,
+            job.pool(),
+        ),
+        _ => unreachable!(),
+    }
+}

@@ -1,0 +1,72 @@
+-- The words of the command line.
+use Rattle.std.specs.Prelude.{ℕ, ◌+◌, ◌*◌, ◌-◌, List, [], ◌∷◌, ◌++◌, Bool, ◌&&◌, Option, Some, None, length, nat_eq, nat_le, if◌then◌else◌, codes}
+use Rattle.jt_base.specs.declared.run.Sizes.{Sizes}
+use Rattle.jt_forms.specs.Functions.{same_name}
+
+-- a decimal digit
+abbrev pub is_digit : ℕ → Bool
+is_digit c = nat_le 48 c && nat_le c 57
+
+-- the number that these digits go on with
+abbrev pub number_from : ℕ → List ℕ → Option ℕ
+number_from n [] = Some n
+number_from n (c ∷ cs) = if is_digit c then number_from (n * 10 + (c - 48)) cs else None
+
+-- the same from a number that is there, or not
+abbrev pub number_with : Option ℕ → List ℕ → Option ℕ
+number_with None cs = None
+number_with (Some n) cs = number_from n cs
+
+-- a number has 1 to 20 digits; leading zeros are allowed
+abbrev pub number_named : List ℕ → Option ℕ
+number_named [] = None
+number_named (c ∷ cs) = if nat_le (length cs) 19 then number_from 0 (c ∷ cs) else None
+
+-- in a range
+abbrev pub within : ℕ → ℕ → Option ℕ → Option ℕ
+within least most None = None
+within least most (Some n) = if nat_le least n && nat_le n most then Some n else None
+
+-- the default and the interactive workers
+abbrev pub sizes_with : Option ℕ → Option ℕ → Option Sizes
+sizes_with (Some n) (Some m) = Some (record { default = n; interactive = m })
+sizes_with (Some n) None = None
+sizes_with None m = None
+
+abbrev pub default_named : List ℕ → Option ℕ
+default_named text = within 1 64 (number_named text)
+
+abbrev pub interactive_named : List ℕ → Option ℕ
+interactive_named text = within 0 16 (number_named text)
+
+-- `N` or `N,M`: 1 to 64 default workers, and 0 to 16 interactive ones, none where the number is missing.
+-- before: what stands before this text
+abbrev pub threads_from : List ℕ → List ℕ → Option Sizes
+threads_from before [] = sizes_with (default_named before) (Some 0)
+threads_from before (c ∷ cs) = if nat_eq c 44 then sizes_with (default_named before) (interactive_named cs) else threads_from (before ++ c ∷ []) cs
+
+abbrev pub threads_named : List ℕ → Option Sizes
+threads_named text = threads_from [] text
+
+-- one default worker and no interactive one
+abbrev pub one_worker : Sizes
+one_worker = record { default = 1; interactive = 0 }
+
+-- the numbers of workers that the command `run` or `run --threads N,M` names; none for other words
+abbrev pub sizes_named : List (List ℕ) → Option Sizes
+sizes_named [] = None
+sizes_named (a ∷ []) = if same_name a (codes "run") then Some one_worker else None
+sizes_named (a ∷ b ∷ []) = None
+sizes_named (a ∷ b ∷ c ∷ []) = if same_name a (codes "run") && same_name b (codes "--threads") then threads_named c else None
+sizes_named (a ∷ b ∷ c ∷ d ∷ words) = None
+
+-- the same with one default worker alone
+abbrev pub is_one_worker : Sizes → Bool
+is_one_worker sizes = nat_eq sizes.default 1 && nat_eq sizes.interactive 0
+
+abbrev pub if_plain : Option Sizes → Option Sizes
+if_plain None = None
+if_plain (Some sizes) = if is_one_worker sizes then Some sizes else None
+
+abbrev pub plain_sizes_named : List (List ℕ) → Option Sizes
+plain_sizes_named words = if_plain (sizes_named words)
