@@ -16,8 +16,6 @@ mod run;
 mod sink;
 mod source;
 mod standard;
-#[cfg(test)]
-mod tests;
 mod text;
 mod value;
 

@@ -7,6 +7,3 @@ mod channel;
 
 pub use atomic::Cell64;
 pub use channel::Chan;
-
-#[cfg(test)]
-mod tests;

@@ -166,10 +166,9 @@ impl CondLock {
     }
 }
 
-#[cfg(test)]
 impl CondLock {
-    /// The level of a task.
-    pub(crate) fn level(&self, task: &Path) -> u64
+    /// How many times a task holds the condition's lock: 0 where it doesn't, also while it waits.
+    pub fn level(&self, task: &Path) -> u64
         ensures { result ≡ level_in self.now.state.holder task.now }
     {
         self.lock.level(task)

@@ -9,8 +9,6 @@ mod condition;
 mod event;
 mod lock;
 mod semaphore;
-#[cfg(test)]
-mod tests;
 mod waiting_list;
 
 pub use bounds::{condition_counts_within_entries, lock_level_within_entries};

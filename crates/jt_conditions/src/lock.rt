@@ -144,9 +144,8 @@ impl Lock {
         });
     }
 
-    /// The level of a task.
-    #[cfg(test)]
-    pub(crate) fn level(&self, task: &Path) -> u64
+    /// How many times a task holds the lock: 0 where it doesn't.
+    pub fn level(&self, task: &Path) -> u64
         ensures { result ≡ level_in self.now task.now }
     {
         match &self.hold {

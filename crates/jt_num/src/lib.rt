@@ -12,8 +12,6 @@ mod bits;
 mod division;
 mod powers;
 mod shifts;
-#[cfg(test)]
-mod tests;
 
 pub use arithmetic::{add, mul, sub, wrap_word};
 pub use bits::{and, complement, or, xor};

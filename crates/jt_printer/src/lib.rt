@@ -13,6 +13,3 @@ pub use print::print_script;
 pub use reading::{RereadError, reread};
 pub use script::kinds_of;
 pub use text::spell;
-
-#[cfg(test)]
-mod tests;

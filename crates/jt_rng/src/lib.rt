@@ -6,8 +6,6 @@
 #![tactic(auto)]
 
 mod stream;
-#[cfg(test)]
-mod tests;
 mod words;
 
 pub use stream::{EmptyRange, TaskRng};

@@ -9,8 +9,6 @@ mod numbers;
 mod place;
 mod state;
 mod step;
-#[cfg(test)]
-mod tests;
 
 pub use laws::{
     every_run_is_sound, every_step_keeps_soundness, no_run_loses_a_wake_up, own_queues_serve,

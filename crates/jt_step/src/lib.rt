@@ -14,8 +14,6 @@ mod run;
 mod start;
 mod sync;
 mod task;
-#[cfg(test)]
-mod tests;
 mod turn;
 mod unwind;
 mod value;

@@ -1,27 +1,9 @@
-//! The program `julia-tasks`: runs a script and writes its lines.
+//! The program `julia-tasks`: hands its words and the standard streams to the commands, and ends with
+//! the number of their status.
 #![tactic(auto)]
 
-mod causes;
-mod command;
-mod fault;
-#[cfg(test)]
-mod language_tests;
-mod note;
-mod reading;
-mod report;
-mod run;
-#[cfg(test)]
-mod running_tests;
-#[cfg(test)]
-mod task_tests;
-#[cfg(test)]
-mod tests;
-mod tool;
-mod writing;
-
-use crate::report::Status;
-use crate::tool::{run_tool, tell};
 use jt_base::{OpenGate, OutOfMemory, StdSink, StdSource};
+use jt_tool::{Status, run_tool, tell};
 use std::env;
 use std::io::ErrorKind;
 use std::process::ExitCode;

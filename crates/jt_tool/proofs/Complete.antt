@@ -1,0 +1,128 @@
+-- An accepted script, and no fault that was counted, leave the answers of a run and want of memory.
+use Rattle.std.proofs.Common.{◌≡◌, ℕ, ◌+◌, ◌≤◌, ◌↔◌, List, [], ◌++◌, length, Option, Some, None, Result, Ok, Err, IsUtf8, refl, sym, ap, ◌∙◌, subst, arith}
+use Rattle.std.proofs.lemmas.List.{append-nil, length-append}
+use Rattle.jt_base.specs.declared.entry.Entry.{Entry}
+use Rattle.jt_base.specs.declared.run.Sizes.{Sizes}
+use Rattle.jt_base.specs.Outside.{ReadsToEnd, Gives}
+use Rattle.jt_grammar.specs.Joined.{IsScriptOf, IsUnexpected, IsTooDeep}
+use Rattle.jt_grammar.proofs.Main.{lines_only}
+use Rattle.jt_grammar.proofs.OneRefusal.{not_unexpected, not_too_deep}
+use Rattle.jt_printer.proofs.Whole.{not_both}
+use Rattle.jt_lexer.proofs.TokenLaws.{tokens_read}
+use Rattle.jt_lexer.specs.Tokens.{IsTokensOf}
+use Rattle.jt_lexer.specs.declared.error.LexError.TheVariants as lexical
+use Rattle.jt_forms.specs.Built.{unbuilt}
+use Rattle.jt_scopes.specs.declared.rules.Broken.{Broken}
+use Rattle.jt_scopes.specs.declared.rules.Rule.{Rule}
+use Rattle.jt_scopes.specs.declared.rules.Rule.TheVariants as rule
+use Rattle.jt_scopes.specs.Scripts.{Among, Breaks, BreaksNone, broken_rules}
+use Rattle.jt_syntax.specs.Tree.{TopTree}
+use Rattle.jt_syntax.specs.declared.token.Token.{Token}
+use Rattle.jt_tool.specs.declared.report.Refusal.{Refusal}
+use Rattle.jt_tool.specs.declared.report.Refusal.TheVariants.{BadCharacter, OpenString, NumberTooLarge, Unexpected, TooDeep, NotBuilt, UnknownName, CapturedAssigned, AmbiguousGlobal, TwiceDefined, WrongCount, NoConstant, BadJump}
+use Rattle.jt_tool.specs.declared.report.Status.{Status}
+use Rattle.jt_tool.specs.declared.report.Status.TheVariants.{Ok as Fine, MainFailed, Usage, Refused, ReadFault, WriteFault, Deadlock, EventLimit, OutOfMemory, TooLarge, NotText}
+use Rattle.jt_tool.specs.Tool.{AnswersSource, WasRead, IsAccepted, IsOfRun, IsScriptText, IsRefused, IsMisnamedAt, most_script, most_open}
+
+-- what a source gave is no more than what was left
+not_too_many : (before after : Option (List ℕ)) → IsAccepted before → Gives before after (most_script + 1) → ⊥
+not_too_many None after accepted given = accepted
+not_too_many (Some bytes) None accepted given = given.1
+not_too_many (Some bytes) (Some rest) accepted given =
+    let e : length bytes ≡ length (given.0 ++ rest) = ap length given.1 in
+    let a = length-append given.0 rest in
+    let n = given.2 in
+    let m = accepted.0 in
+    omega (arith, e, a, n, m)
+
+-- a source that was read to its end gave all that was left
+all_read : (bytes read : List ℕ) (after : Option (List ℕ)) → ReadsToEnd (Some bytes) after read → bytes ≡ read
+all_read bytes read None h = absurd (h.0)
+all_read bytes read (Some rest) h = h.0 ∙ ap (λ r. read ++ r) h.1 ∙ append-nil read
+
+-- one text has one list of tokens
+ok_is : {A E : Type 0} → A → Result A E → A
+ok_is a (Ok x) = x
+ok_is a (Err e) = a
+
+one_list : (text : List ℕ) (ts us : List Token) → IsTokensOf text ts → IsTokensOf text us → ts ≡ us
+unfolding ok_is
+one_list text ts us t u = ap (ok_is ts) (sym (tokens_read text ts t) ∙ tokens_read text us u)
+
+-- one text has one script
+one_script : (bytes : List ℕ) (ts us : List Token) (tops others : List TopTree) → IsScriptText bytes ts tops → IsScriptText bytes us others → tops ≡ others
+one_script bytes ts us tops others is other =
+    let same = one_list bytes ts us is.lexed other.lexed in
+    let P : List Token → Type 0 = λ xs. IsScriptOf xs others in
+    lines_only ts tops others is.parsed (subst P (sym same) other.parsed)
+
+-- a script that breaks no rule of names breaks none that counts
+none_among : (b : Broken) (bs : List Broken) → bs ≡ [] → Among b bs → ⊥
+none_among b bs none among = subst (Among b) none among
+
+none_broken : (tops : List TopTree) (b : Broken) → BreaksNone tops → Breaks tops b → ⊥
+none_broken tops b none breaks = none_among b (broken_rules tops) none breaks.among
+
+not_misnamed : (bytes : List ℕ) (ts : List Token) (tops : List TopTree) (r : Rule) (at : ℕ) → IsScriptText bytes ts tops → BreaksNone tops → IsMisnamedAt bytes r at → ⊥
+not_misnamed bytes ts tops r at is none m = none_broken m.1 _ (subst BreaksNone (one_script bytes ts m.0 tops m.1 is m.2) none) m.4
+
+-- a script all of whose forms run, and that breaks no rule of names, is not refused
+not_refused : (bytes : List ℕ) (ts : List Token) (tops : List TopTree) (kind : Refusal) (at : ℕ) → IsScriptText bytes ts tops → unbuilt tops ≡ None → BreaksNone tops → IsRefused bytes kind at → ⊥
+not_refused bytes ts tops BadCharacter at is built named r = not_both bytes ts (lexical.BadCharacter at) is.lexed r
+not_refused bytes ts tops OpenString at is built named r = not_both bytes ts (lexical.OpenString at) is.lexed r
+not_refused bytes ts tops NumberTooLarge at is built named r = not_both bytes ts (lexical.NumberTooLarge at) is.lexed r
+not_refused bytes ts tops Unexpected at is built named r =
+    let same = one_list bytes ts r.0 is.lexed r.2 in
+    let P : List Token → Type 0 = λ us. IsUnexpected most_open us r.1 in
+    not_unexpected most_open ts r.1 tops is.parsed is.nested (subst P (sym same) r.3)
+not_refused bytes ts tops TooDeep at is built named r =
+    let same = one_list bytes ts r.0 is.lexed r.2 in
+    let P : List Token → Type 0 = λ us. IsTooDeep most_open us r.1 in
+    not_too_deep most_open ts r.1 tops is.parsed is.nested (subst P (sym same) r.3)
+not_refused bytes ts tops NotBuilt at is built named r =
+    absurd (none_some (sym built ∙ ap unbuilt (one_script bytes ts r.0 tops r.1 is r.2) ∙ r.3))
+  where
+    none_some : {n : ℕ} → None ≡ Some n → ⊥
+    none_some q = cc
+not_refused bytes ts tops UnknownName at is built named r = not_misnamed bytes ts tops rule.UnknownName at is named r
+not_refused bytes ts tops CapturedAssigned at is built named r = not_misnamed bytes ts tops rule.CapturedAssigned at is named r
+not_refused bytes ts tops AmbiguousGlobal at is built named r = not_misnamed bytes ts tops rule.AmbiguousGlobal at is named r
+not_refused bytes ts tops TwiceDefined at is built named r = not_misnamed bytes ts tops rule.TwiceDefined at is named r
+not_refused bytes ts tops WrongCount at is built named r = not_misnamed bytes ts tops rule.WrongCount at is named r
+not_refused bytes ts tops NoConstant at is built named r = not_misnamed bytes ts tops rule.NoConstant at is named r
+not_refused bytes ts tops BadJump at is built named r = not_misnamed bytes ts tops rule.BadJump at is named r
+
+not_refused_source : (before after : Option (List ℕ)) (read : List ℕ) (kind : Refusal) (at : ℕ) → IsAccepted before → ReadsToEnd before after read → IsRefused read kind at → ⊥
+not_refused_source None after read kind at accepted h r = accepted
+not_refused_source (Some bytes) after read kind at accepted h r =
+    let P : List ℕ → Type 0 = λ b. IsRefused b kind at in
+    not_refused bytes accepted.1 accepted.2 kind at accepted.3 accepted.4 accepted.5 (subst P (sym (all_read bytes read after h)) r)
+
+text_source : (before after : Option (List ℕ)) (read : List ℕ) → IsAccepted before → ReadsToEnd before after read → (IsUtf8 read → ⊥) → ⊥
+text_source None after read accepted h no_text = accepted
+text_source (Some bytes) after read accepted h no_text = no_text (subst IsUtf8 (all_read bytes read after h) accepted.3.text)
+
+none_is_some : {A : Type 0} (o : Option A) (a : A) → o ≡ None → o ≡ Some a → ⊥
+none_is_some o a n q = apart (sym n ∙ q)
+  where
+    apart : {A : Type 0} {a : A} → None ≡ Some a → ⊥
+    apart e = cc
+
+pub completes : (sizes : Option Sizes) (read_rose wrote_rose : Type 0) (status : Status) (history : List Entry) (before after out_before out_after : Option (List ℕ))
+    → (status ≡ Usage ↔ (sizes ≡ None)) → (status ≡ ReadFault → read_rose) → (status ≡ TooLarge → Gives before after (most_script + 1))
+    → ((chosen : Sizes) → sizes ≡ Some chosen → WasRead status → AnswersSource chosen before after status history out_before out_after)
+    → (status ≡ WriteFault → wrote_rose)
+    → (chosen : Sizes) → sizes ≡ Some chosen → (read_rose → ⊥) → (wrote_rose → ⊥) → IsAccepted before → IsOfRun status
+completes sizes rr wr Fine history b a ob oa usage read large whole write chosen is no_read no_write accepted = tt
+completes sizes rr wr (MainFailed fault) history b a ob oa usage read large whole write chosen is no_read no_write accepted = tt
+completes sizes rr wr Deadlock history b a ob oa usage read large whole write chosen is no_read no_write accepted = tt
+completes sizes rr wr EventLimit history b a ob oa usage read large whole write chosen is no_read no_write accepted = tt
+completes sizes rr wr OutOfMemory history b a ob oa usage read large whole write chosen is no_read no_write accepted = tt
+completes sizes rr wr Usage history b a ob oa usage read large whole write chosen is no_read no_write accepted = absurd (none_is_some sizes chosen (usage.0 refl) is)
+completes sizes rr wr ReadFault history b a ob oa usage read large whole write chosen is no_read no_write accepted = absurd (no_read (read refl))
+completes sizes rr wr WriteFault history b a ob oa usage read large whole write chosen is no_read no_write accepted = absurd (no_write (write refl))
+completes sizes rr wr TooLarge history b a ob oa usage read large whole write chosen is no_read no_write accepted = absurd (not_too_many b a accepted (large refl))
+completes sizes rr wr (Refused kind at) history b a ob oa usage read large whole write chosen is no_read no_write accepted =
+    let w = whole chosen is tt in absurd (not_refused_source b a w.bytes kind at accepted w.read w.answers.1)
+completes sizes rr wr NotText history b a ob oa usage read large whole write chosen is no_read no_write accepted =
+    let w = whole chosen is tt in absurd (text_source b a w.bytes accepted w.read w.answers)

@@ -1,0 +1,121 @@
+//! The words of the command line.
+
+ghost use Rattle.std.specs.Prelude.{◌≡◌, ◌≤◌, ◌∷◌, IfSome, List, map, string_bytes, ℕ};
+ghost use Rattle.jt_tool.specs.Words as spec;
+
+use jt_base::Sizes;
+
+/// The most digits of a number.
+const MOST_DIGITS: usize = 20;
+
+/// A number with one digit more, if it is a digit and the number is at most this one.
+#[tactic(auto, using(crate::proofs::Numbers::too_large))]
+fn with_digit(number: u32, digit: u8, most: u32) -> Option<u32>
+    requires number { number ≤ most }
+    requires most { most ≤ 64 }
+    ensures named { (more : List ℕ) → spec.within 0 most (spec.number_from number (digit ∷ more)) ≡ spec.within 0 most (spec.number_with result more) }
+    ensures most { IfSome result (λ n. n ≤ most) }
+{
+    if !digit.is_ascii_digit() {
+        return None;
+    }
+    let number = number * 10 + u32::from(digit - b'0');
+    if number > most { None } else { Some(number) }
+}
+
+/// The number, at most this one, that the digits of a text are.
+fn number_up_to(text: &[u8], most: u32) -> Option<u32>
+    requires { most ≤ 64 }
+    ensures { result ≡ spec.within 0 most (spec.number_from 0 text.now) }
+{
+    let mut number = 0;
+    for digit in text {
+        number = with_digit(number, *digit, most)?;
+    }
+    Some(number)
+}
+
+/// The number between these two that a text is, if it is one: 1 to 20 digits, leading zeros allowed.
+fn number_within(text: &[u8], least: u32, most: u32) -> Option<u32>
+    requires { most ≤ 64 }
+    ensures { result ≡ spec.within least most (spec.number_named text.now) }
+{
+    if text.is_empty() || text.len() > MOST_DIGITS {
+        return None;
+    }
+    match number_up_to(text, most) {
+        Some(number) if number >= least => Some(number),
+        _ => None,
+    }
+}
+
+/// Both numbers of workers, where both are there.
+fn sizes_with(default: Option<u32>, interactive: Option<u32>) -> Option<Sizes>
+    ensures { result ≡ spec.sizes_with default interactive }
+{
+    match (default, interactive) {
+        (Some(default), Some(interactive)) => Some(Sizes {
+            default,
+            interactive,
+        }),
+        _ => None,
+    }
+}
+
+/// The numbers of workers that `N` or `N,M` names: 1 to 64 default workers, and 0 to 16 interactive
+/// ones, none where the number is missing.
+#[tactic(auto, using(crate::proofs::Numbers::threads_have_a_worker))]
+fn threads_named(text: &[u8]) -> Option<Sizes>
+    ensures named { result ≡ spec.threads_named text.now }
+    ensures worker { IfSome result (λ sizes. 1 ≤ sizes.default) }
+{
+    for (at, byte) in text.iter().enumerate() {
+        if *byte == b',' {
+            let default = number_within(&text[..at], 1, 64);
+            let interactive = number_within(&text[at + 1..], 0, 16);
+            return sizes_with(default, interactive);
+        }
+    }
+    sizes_with(number_within(text, 1, 64), Some(0))
+}
+
+/// The numbers of workers that the command names: one default worker by `run`, and those of
+/// `run --threads N` or `run --threads N,M`. Nothing for other words.
+pub fn sizes_named(words: &[String]) -> Option<Sizes>
+    ensures named { result ≡ spec.sizes_named (map string_bytes words.now) }
+    ensures worker { IfSome result (λ sizes. 1 ≤ sizes.default) }
+{
+    match words {
+        [command] => {
+            if command.as_bytes() == b"run".as_slice() {
+                Some(Sizes {
+                    default: 1,
+                    interactive: 0,
+                })
+            } else {
+                None
+            }
+        }
+        [command, option, value] => {
+            if command.as_bytes() == b"run".as_slice()
+                && option.as_bytes() == b"--threads".as_slice()
+            {
+                threads_named(value.as_bytes())
+            } else {
+                None
+            }
+        }
+        _ => None,
+    }
+}
+
+/// The same where it is one default worker alone, and nothing for other numbers.
+pub fn plain_sizes_named(words: &[String]) -> Option<Sizes>
+    ensures named { result ≡ spec.plain_sizes_named (map string_bytes words.now) }
+    ensures worker { IfSome result (λ sizes. 1 ≤ sizes.default) }
+{
+    match sizes_named(words) {
+        Some(sizes) if sizes.default == 1 && sizes.interactive == 0 => Some(sizes),
+        _ => None,
+    }
+}

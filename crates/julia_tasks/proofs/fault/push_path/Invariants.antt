@@ -1,8 +1,0 @@
--- The text so far, and the indexes to come.
-use Rattle.std.proofs.Common.{◌≡◌, ◌++◌, drop}
-use Rattle.std.specs.Prelude.{string_bytes}
-use Rattle.julia_tasks.specs.Faults.{indexes_text}
-use Rattle.julia_tasks.proofs.fault.push_path.Given as goal
-
-abbrev pub invariant-loop-index : goal.invariant-loop-index
-invariant-loop-index l = string_bytes l.text ++ indexes_text (drop l.index-index l.path) ≡ string_bytes l.initial.text ++ indexes_text l.path
