@@ -21,7 +21,8 @@ pub trait Source {
 
     /// Takes bytes that are left into the front of `buf` and returns how many: none only where
     /// `buf` is empty or the end is reached. What stands in `buf` behind them may be anything.
-    /// After `ReadFailed`, whose fault is counted, what was left is still left.
+    /// After `ReadFailed`, whose fault is counted, what was left is still left, and `buf` may hold
+    /// anything.
     fn read(&mut self, buf: &mut [u8]) -> Result<usize, ReadFailed>
         ensures within { ReadsAtMost result buf.new }
         ensures bytes { Reads (left self.old) (left self.new) result buf.new }

@@ -1,6 +1,8 @@
 //! Readers and writers of the standard library as source and sink.
 
-ghost use Rattle.std.specs.Prelude.{◌≡◌, None};
+ghost use Rattle.std.specs.Prelude.{ℕ, ◌≡◌, ◌≤◌, List, None, IfOk, OnErr};
+ghost use Rattle.std.specs.Io.{ReadsAtMost, WritesAtMost};
+ghost use Rattle.jt_base.specs.Outside.{most_count, Rose, Reads, Writes};
 
 use crate::sink::{Sink, WriteFailed};
 use crate::source::{ReadFailed, Source};
@@ -40,8 +42,17 @@ impl<I: Read> Source for StdSource<I> {
 
     ghost faults = { λ s. s };
 
-    /// Every error of the reader is a failure, also an interruption.
-    fn read(&mut self, buf: &mut [u8]) -> Result<usize, ReadFailed> {
+    /// Every error of the reader is a failure, also an interruption. A read that succeeds leaves the
+    /// count as it was.
+    fn read(&mut self, buf: &mut [u8]) -> Result<usize, ReadFailed>
+        ensures within { ReadsAtMost result buf.new }
+        ensures bytes { Reads None None result buf.new }
+        ensures rose { OnErr result (Rose self.old self.new) }
+        ensures never_falls { self.old ≤ self.new }
+        ensures most { self.new ≤ most_count }
+
+        ensures kept { IfOk result (λ _. self.new ≡ self.old) }
+    {
         match self.inner.read(buf) {
             Ok(count) => Ok(count),
             Err(_) => {
@@ -86,8 +97,17 @@ impl<O: Write> Sink for StdSink<O> {
     ghost faults = { λ s. s };
 
     /// Writes and flushes. Every error of the writer or of its flush is a failure, also an
-    /// interruption, and so is a write that takes none of the bytes though there are some.
-    fn write(&mut self, bytes: &[u8]) -> Result<usize, WriteFailed> {
+    /// interruption, and so is a write that takes none of the bytes though there are some. A write that
+    /// succeeds leaves the count as it was.
+    fn write(&mut self, bytes: &[u8]) -> Result<usize, WriteFailed>
+        ensures within { WritesAtMost result bytes.now }
+        ensures bytes { Writes None None result bytes.now }
+        ensures rose { OnErr result (Rose self.old self.new) }
+        ensures never_falls { self.old ≤ self.new }
+        ensures most { self.new ≤ most_count }
+
+        ensures kept { IfOk result (λ _. self.new ≡ self.old) }
+    {
         match self.inner.write(bytes) {
             Ok(count) if (count > 0 || bytes.is_empty()) && self.inner.flush().is_ok() => Ok(count),
             _ => {

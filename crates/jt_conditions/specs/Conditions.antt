@@ -2,6 +2,8 @@
 use Rattle.std.specs.Prelude.{ℕ, ◌+◌, ◌-◌, pos, List, [], ◌∷◌, ◌++◌, length, take, drop, map, min, filter, fold, Option, Some, None, Bool, true, false, if◌then◌else◌, nat_le, nat_lt, refl}
 use Rattle.std.specs.Coded.{Coded, code_by, coded×, coded_list, coded_option, coded_ℕ}
 use Rattle.std.specs.FinMap as finite
+use Rattle.jt_base.specs.declared.operation.Op.{Op}
+use Rattle.jt_base.specs.declared.operation.Op.TheVariants as op
 use Rattle.jt_base.specs.declared.operation.Reply.TheVariants as reply
 use Rattle.jt_base.specs.declared.entry.Entry.{Entry}
 use Rattle.jt_base.specs.declared.entry.Ask.{Ask}
@@ -11,6 +13,15 @@ use Rattle.jt_laws.specs.Locks.{levels_of, waits_of, backs_of, places_of, waitin
 use Rattle.jt_conditions.specs.declared.absence.Absence.{Absence}
 use Rattle.jt_conditions.specs.Absences.{AbsentTasks, absent_code, wholly_notified}
 use Rattle.jt_conditions.specs.Locks.{Holder, holder_of, reply_to}
+
+-- the operations on conditions
+abbrev pub is_condition_op : Op → Bool
+is_condition_op (op.Lock name) = true
+is_condition_op (op.Unlock name) = true
+is_condition_op (op.CWait name) = true
+is_condition_op (op.CBack name) = true
+is_condition_op (op.CNotify name all) = true
+is_condition_op o = false
 
 -- who holds the lock, who waits, and what is kept of the tasks that aren't back
 pub record Condition : Type 0 where

@@ -1,7 +1,7 @@
 -- What a list of a lock's entries leaves, and how the lock answers.
 use Rattle.std.specs.Prelude.{ℕ, ◌+◌, ◌-◌, List, [], ◌∷◌, Option, Some, None, Bool, true, false, Result, Ok, Err, if◌then◌else◌, nat_le, nat_lt, find, option_map}
 use Rattle.jt_base.specs.declared.operation.Op.{Op}
-use Rattle.jt_base.specs.declared.operation.Op.TheVariants.{NewLock}
+use Rattle.jt_base.specs.declared.operation.Op.TheVariants.{NewLock, Lock, Unlock}
 use Rattle.jt_base.specs.declared.operation.Reply.{Reply}
 use Rattle.jt_base.specs.declared.operation.Reply.TheVariants as reply
 use Rattle.jt_base.specs.declared.entry.Entry.{Entry}
@@ -9,6 +9,12 @@ use Rattle.jt_base.specs.declared.entry.Ask.{Ask}
 use Rattle.jt_base.specs.declared.entry.Ask.TheVariants.{Done, NotYet}
 use Rattle.jt_laws.specs.Entries.{same_path}
 use Rattle.jt_laws.specs.Locks.{level}
+
+-- the operations on locks
+abbrev pub is_lock_op : Op → Bool
+is_lock_op (Lock name) = true
+is_lock_op (Unlock name) = true
+is_lock_op op = false
 
 -- the task that holds a lock, and its level
 pub record Holder : Type 0 where

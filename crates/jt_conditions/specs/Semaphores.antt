@@ -1,8 +1,10 @@
 -- What a list of a semaphore's entries leaves, and how the semaphore answers.
-use Rattle.std.specs.Prelude.{ℕ, ◌+◌, ◌-◌, List, Option, if◌then◌else◌, nat_eq, nat_lt, option_map}
+use Rattle.std.specs.Prelude.{ℕ, ◌+◌, ◌-◌, Bool, true, false, List, Option, if◌then◌else◌, nat_eq, nat_lt, option_map}
 use Rattle.jt_base.specs.declared.entry.Entry.{Entry}
 use Rattle.jt_base.specs.declared.entry.Ask.{Ask}
 use Rattle.jt_base.specs.declared.entry.Ask.TheVariants.{Done, NotYet}
+use Rattle.jt_base.specs.declared.operation.Op.{Op}
+use Rattle.jt_base.specs.declared.operation.Op.TheVariants.{Acquire, Release}
 use Rattle.jt_base.specs.declared.operation.Reply.TheVariants as reply
 use Rattle.jt_laws.specs.Semaphores.{count_of, held_of}
 
@@ -14,6 +16,12 @@ pub record Semaphore : Type 0 where
 abbrev pub semaphore_left_by : List Entry → Option Semaphore
 semaphore_left_by own =
     option_map (λ (count : ℕ). record { count = count; held = held_of own }) (count_of own)
+
+-- the operations on semaphores
+abbrev pub is_semaphore_op : Op → Bool
+is_semaphore_op (Acquire name) = true
+is_semaphore_op (Release name) = true
+is_semaphore_op op = false
 
 -- an acquire needs it held less often than its count
 abbrev pub acquire_answer : Semaphore → Ask

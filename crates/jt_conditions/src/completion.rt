@@ -1,13 +1,14 @@
 //! A task's completion.
 
-ghost use Rattle.std.specs.Prelude.{◌≡◌, ℕ, List, [], Some};
+ghost use Rattle.std.specs.Prelude.{◌≡◌, false, ℕ, List, [], Some};
+ghost use Rattle.jt_base.specs.declared.entry.Ask.TheVariants.{NotYet};
 ghost use Rattle.jt_base.specs.declared.operation.How.{How};
 ghost use Rattle.jt_base.specs.declared.operation.Op.TheVariants.{Spawn};
 ghost use Rattle.jt_laws.specs.Entries.{Object, object_of};
 ghost use Rattle.jt_laws.specs.Entries.Object.{Task};
 ghost use Rattle.jt_laws.specs.Objects.{Asked, MadeBy};
 ghost use Rattle.jt_conditions.specs.Completions.{completion_left_by};
-ghost use Rattle.jt_conditions.specs.CompletionSteps.{begin_answer, begun, running_answer, finished, fetch_answer, wait_answer};
+ghost use Rattle.jt_conditions.specs.CompletionSteps.{is_completion_op, begin_answer, begun, running_answer, finished, fetch_answer, wait_answer};
 
 use jt_base::{Ask, Op, Reply, Value};
 
@@ -35,9 +36,11 @@ impl Completion {
 
     /// Answers an operation on the task: its own Begin, Yield, End and Fail, and the Fetch and Wait
     /// of others. `NotYet` exactly where the task's law allows no reply, so also at a second Begin,
-    /// and at an End, Fail or Yield before the Begin or after the End or Fail.
+    /// and at an End, Fail or Yield before the Begin or after the End or Fail, and at every other
+    /// operation, which changes nothing.
     pub fn ask(&mut self, op: &Op) -> Ask
         ensures law { (path task : List ℕ) → object_of task op.now ≡ Task path → Asked Completion (completion_left_by path) task op.now self.old result self.new }
+        ensures others { is_completion_op op.now ≡ false → (result ≡ NotYet) × (self.new ≡ self.old) }
     {
         match op {
             Op::Begin => self.begin(),

@@ -9,7 +9,7 @@ ghost use Rattle.jt_laws.specs.Entries.{Object, object_of};
 ghost use Rattle.jt_laws.specs.Entries.Object.{Named};
 ghost use Rattle.jt_laws.specs.Objects.{Asked, MadeBy};
 ghost use Rattle.jt_conditions.specs.Locks.{level_in, reply_to};
-ghost use Rattle.jt_conditions.specs.Conditions.{Condition, condition_left_by, after_wait, how_many, woken, notify_answer, after_notify, back_answer, after_back};
+ghost use Rattle.jt_conditions.specs.Conditions.{Condition, condition_left_by, is_condition_op, after_wait, how_many, woken, notify_answer, after_notify, back_answer, after_back};
 
 use crate::absence::Absences;
 use crate::lock::Lock;
@@ -68,15 +68,16 @@ impl CondLock {
     }
 
     /// Answers a task's Lock, Unlock, CWait, CBack or CNotify of this condition. `NotYet` exactly
-    /// where the law of objects allows no reply: at a Lock while another task holds the lock, at a
-    /// CBack before the task was notified or while the lock is held, and at an operation on objects
-    /// of other kinds. An Unlock, CWait or CNotify by a task that doesn't hold the lock changes
-    /// nothing and is told so.
+    /// where the law of objects allows no reply, at a Lock while another task holds the lock and at
+    /// a CBack before the task was notified or while the lock is held, and at every other operation:
+    /// the condition is then as it was. An Unlock, CWait or CNotify by a task that doesn't hold the
+    /// lock changes nothing and is told so.
     pub fn ask(&mut self, task: &Path, op: &Op) -> Ask
         requires levels { (name : Name) → op.now ≡ Locks name → level_in self.old.state.holder task.now < 2 ^ 32 }
         requires reserved { (name : Name) → op.now ≡ CWait name → 0 < self.old.room }
         ensures law { (name : Name) → object_of task.now op.now ≡ Named name → Asked Condition condition_left_by task.now op.now self.old.state result self.new.state }
         ensures not_yet { result ≡ NotYet → self.new ≡ self.old }
+        ensures others { is_condition_op op.now ≡ false → result ≡ NotYet }
     {
         match op {
             Op::Lock(_) => self.lock.lock(task),

@@ -1,12 +1,13 @@
 //! Events.
 
-ghost use Rattle.std.specs.Prelude.{◌≡◌, ℕ, List};
+ghost use Rattle.std.specs.Prelude.{◌≡◌, false, ℕ, List};
+ghost use Rattle.jt_base.specs.declared.entry.Ask.TheVariants.{NotYet};
 ghost use Rattle.jt_base.specs.declared.name.Name.{Name};
 ghost use Rattle.jt_base.specs.declared.operation.Op.TheVariants.{NewEvent};
 ghost use Rattle.jt_laws.specs.Entries.{Object, object_of};
 ghost use Rattle.jt_laws.specs.Entries.Object.{Named};
 ghost use Rattle.jt_laws.specs.Objects.{Asked, MadeBy};
-ghost use Rattle.jt_conditions.specs.Events.{EventState, event_left_by, event_wait_answer, event_after_wait};
+ghost use Rattle.jt_conditions.specs.Events.{EventState, event_left_by, is_event_op, event_wait_answer, event_after_wait};
 
 use jt_base::{Ask, Op, Reply};
 use std::marker::Model;
@@ -36,10 +37,11 @@ impl Event {
     }
 
     /// Answers a Notify, a Reset or an EWait of this event. `NotYet` exactly where the law of
-    /// objects allows no reply: at an EWait while the event isn't set, and at an operation on
-    /// objects of other kinds.
+    /// objects allows no reply, at an EWait while the event isn't set, and at every other operation:
+    /// the event is then as it was.
     pub fn ask(&mut self, op: &Op) -> Ask
         ensures law { (task : List ℕ) (name : Name) → object_of task op.now ≡ Named name → Asked EventState event_left_by task op.now self.old result self.new }
+        ensures others { is_event_op op.now ≡ false → (result ≡ NotYet) × (self.new ≡ self.old) }
     {
         match op {
             Op::Notify(_) => {

@@ -1,14 +1,14 @@
 //! Locks.
 
-ghost use Rattle.std.specs.Prelude.{◌≡◌, ◌^◌, ◌<◌, ℕ, List, Option, Some, None, is_none};
-ghost use Rattle.jt_base.specs.declared.entry.Ask.TheVariants.{Done};
+ghost use Rattle.std.specs.Prelude.{◌≡◌, ◌^◌, ◌<◌, ℕ, List, Option, Some, None, false, is_none};
+ghost use Rattle.jt_base.specs.declared.entry.Ask.TheVariants.{Done, NotYet};
 ghost use Rattle.jt_base.specs.declared.name.Name.{Name};
 ghost use Rattle.jt_base.specs.declared.operation.Op.TheVariants.{NewLock, Lock as Locks};
 ghost use Rattle.jt_base.specs.declared.operation.Reply.TheVariants as reply;
 ghost use Rattle.jt_laws.specs.Entries.{Object, object_of, same_path};
 ghost use Rattle.jt_laws.specs.Entries.Object.{Named};
 ghost use Rattle.jt_laws.specs.Objects.{Asked, MadeBy};
-ghost use Rattle.jt_conditions.specs.Locks.{Holder, lock_left_by, level_in, lock_answer, after_lock, reply_to, after_unlock, holding};
+ghost use Rattle.jt_conditions.specs.Locks.{Holder, is_lock_op, lock_left_by, level_in, lock_answer, after_lock, reply_to, after_unlock, holding};
 
 use jt_base::{Ask, Op, Path, Reply};
 use std::marker::Model;
@@ -55,12 +55,13 @@ impl Lock {
     }
 
     /// Answers a task's Lock or Unlock of this lock. `NotYet` exactly where the law of objects
-    /// allows no reply: at a Lock while another task holds the lock, and at an operation on objects
-    /// of other kinds. An Unlock of a lock that is free, or that another task holds, changes
-    /// nothing and is told so.
+    /// allows no reply, at a Lock while another task holds the lock, and at every other operation:
+    /// the lock is then as it was. An Unlock of a lock that is free, or that another task holds,
+    /// changes nothing and is told so.
     pub fn ask(&mut self, task: &Path, op: &Op) -> Ask
         requires levels { (name : Name) → op.now ≡ Locks name → level_in self.old task.now < 2 ^ 32 }
         ensures law { (name : Name) → object_of task.now op.now ≡ Named name → Asked (Option Holder) lock_left_by task.now op.now self.old result self.new }
+        ensures others { is_lock_op op.now ≡ false → (result ≡ NotYet) × (self.new ≡ self.old) }
     {
         match op {
             Op::Lock(_) => self.lock(task),

@@ -1,12 +1,13 @@
 //! Semaphores.
 
-ghost use Rattle.std.specs.Prelude.{◌≡◌, ℕ, List};
+ghost use Rattle.std.specs.Prelude.{◌≡◌, false, ℕ, List};
+ghost use Rattle.jt_base.specs.declared.entry.Ask.TheVariants.{NotYet};
 ghost use Rattle.jt_base.specs.declared.name.Name.{Name};
 ghost use Rattle.jt_base.specs.declared.operation.Op.TheVariants.{NewSemaphore};
 ghost use Rattle.jt_laws.specs.Entries.{Object, object_of};
 ghost use Rattle.jt_laws.specs.Entries.Object.{Named};
 ghost use Rattle.jt_laws.specs.Objects.{Asked, MadeBy};
-ghost use Rattle.jt_conditions.specs.Semaphores.{Semaphore, semaphore_left_by, acquire_answer, after_acquire, release_answer, after_release};
+ghost use Rattle.jt_conditions.specs.Semaphores.{Semaphore, semaphore_left_by, is_semaphore_op, acquire_answer, after_acquire, release_answer, after_release};
 
 use jt_base::{Ask, Op, Reply};
 use std::marker::Model;
@@ -36,11 +37,12 @@ impl Sema {
     }
 
     /// Answers an Acquire or a Release of this semaphore. `NotYet` exactly where the law of objects
-    /// allows no reply: at an Acquire while the semaphore is held as often as its count, and at an
-    /// operation on objects of other kinds. A Release of a semaphore that isn't held changes
-    /// nothing and is told so.
+    /// allows no reply, at an Acquire while the semaphore is held as often as its count, and at
+    /// every other operation: the semaphore is then as it was. A Release of a semaphore that isn't
+    /// held changes nothing and is told so.
     pub fn ask(&mut self, op: &Op) -> Ask
         ensures law { (task : List ℕ) (name : Name) → object_of task op.now ≡ Named name → Asked Semaphore semaphore_left_by task op.now self.old result self.new }
+        ensures others { is_semaphore_op op.now ≡ false → (result ≡ NotYet) × (self.new ≡ self.old) }
     {
         match op {
             Op::Acquire(_) => self.acquire(),

@@ -102,6 +102,7 @@ impl TaskRng {
         ensures moved { a ≤ℤ b → self.new ≡ next_state self.old }
         ensures along { (seeds : List ℕ) (path : List (ℕ × ℕ)) (d f : ℕ) → self.old ≡ stream_after seeds path d f
             → a ≤ℤ b → self.new ≡ stream_after seeds path (d + 1) f }
+        ensures drawn { IfOk result (λ v. (seeds : List ℕ) (path : List (ℕ × ℕ)) (d f : ℕ) → self.old ≡ stream_after seeds path d f → v ≡ range_value a b (draw_at seeds path d)) }
     {
         if b < a {
             return Err(EmptyRange);

@@ -8,20 +8,14 @@ use Rattle.jt_conditions.proofs.Asking.{asked_at}
 use Rattle.jt_conditions.proofs.EventLaw.{notify_asked, reset_asked, wait_asked}
 use Rattle.jt_conditions.proofs.event.Event.ask.Goals as goal
 
-pub returns-in-Notify : goal.returns-in-Notify
-returns-in-Notify c = record {
-  law = λ task name o.
-      asked_at EventState event_left_by task (Notify c.in-Notify.field-0) c.args.op.now c.args.self.now (Done reply.Ok) (Done reply.Ok) _ (record { auto = c.args.self.now.auto; set = true }) c.in-Notify.is refl (ap (λ s. record { auto = s.auto; set = true }) c.self.view_is) (notify_asked task c.in-Notify.field-0 c.args.self.now);
-}
+pub returns-in-Notify-clause-law : goal.returns-in-Notify-clause-law
+returns-in-Notify-clause-law c task name o =
+    asked_at EventState event_left_by task (Notify c.in-Notify.field-0) c.args.op.now c.args.self.now (Done reply.Ok) (Done reply.Ok) _ (record { auto = c.args.self.now.auto; set = true }) c.in-Notify.is refl (ap (λ s. record { auto = s.auto; set = true }) c.self.view_is) (notify_asked task c.in-Notify.field-0 c.args.self.now)
 
-pub returns-in-Reset : goal.returns-in-Reset
-returns-in-Reset c = record {
-  law = λ task name o.
-      asked_at EventState event_left_by task (Reset c.in-Reset.field-0) c.args.op.now c.args.self.now (Done reply.Ok) (Done reply.Ok) _ (record { auto = c.args.self.now.auto; set = false }) c.in-Reset.is refl (ap (λ s. record { auto = s.auto; set = false }) c.self-in-Reset.view_is) (reset_asked task c.in-Reset.field-0 c.args.self.now);
-}
+pub returns-in-Reset-clause-law : goal.returns-in-Reset-clause-law
+returns-in-Reset-clause-law c task name o =
+    asked_at EventState event_left_by task (Reset c.in-Reset.field-0) c.args.op.now c.args.self.now (Done reply.Ok) (Done reply.Ok) _ (record { auto = c.args.self.now.auto; set = false }) c.in-Reset.is refl (ap (λ s. record { auto = s.auto; set = false }) c.self-in-Reset.view_is) (reset_asked task c.in-Reset.field-0 c.args.self.now)
 
-pub returns-in-EWait : goal.returns-in-EWait
-returns-in-EWait c = record {
-  law = λ task name o.
-      asked_at EventState event_left_by task (EWait c.in-EWait.field-0) c.args.op.now c.args.self.now _ (event_wait_answer c.args.self.now) _ (event_after_wait c.args.self.now) c.in-EWait.is c.wait.ensures.answer c.wait.ensures.after (wait_asked task c.in-EWait.field-0 c.args.self.now);
-}
+pub returns-in-EWait-clause-law : goal.returns-in-EWait-clause-law
+returns-in-EWait-clause-law c task name o =
+    asked_at EventState event_left_by task (EWait c.in-EWait.field-0) c.args.op.now c.args.self.now _ (event_wait_answer c.args.self.now) _ (event_after_wait c.args.self.now) c.in-EWait.is c.wait.ensures.answer c.wait.ensures.after (wait_asked task c.in-EWait.field-0 c.args.self.now)

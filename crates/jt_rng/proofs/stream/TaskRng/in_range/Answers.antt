@@ -2,6 +2,8 @@ use Rattle.std.proofs.Common.{w64, ◌∙◌, ap}
 use Rattle.std.proofs.lemmas.Int.{to_z-of_z}
 use Rattle.jt_rng.specs.Range.{range_value}
 use Rattle.jt_rng.proofs.RangeLemmas.{range_sum, in_order}
+use Rattle.jt_rng.proofs.StreamLemmas.{draw_along}
+use Rattle.jt_rng.specs.Words.{output_of}
 use Rattle.jt_rng.proofs.stream.TaskRng.in_range.Goals as goal
 
 pub returns-clause-value : goal.returns-clause-value
@@ -16,3 +18,7 @@ returns-clause-value c =
     ∙ range_sum c.args.a c.args.b c.draw-word.result c.abs_diff.result _ fits fits' (in_order _ _ order) distance
     c.remainder_through-offset.ensures
     ∙ ap (range_value c.args.a c.args.b) c.draw-word.ensures.value
+
+pub returns-clause-drawn : goal.returns-clause-drawn
+returns-clause-drawn c seeds path d f e =
+    returns-clause-value c ∙ ap (λ s. range_value c.args.a c.args.b (output_of s)) e ∙ ap (range_value c.args.a c.args.b) (draw_along seeds path d f)
