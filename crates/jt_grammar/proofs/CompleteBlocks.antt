@@ -3,13 +3,12 @@ use Rattle.std.proofs.Common.{◌≡◌, ℕ, zero, suc, ◌≤◌, inl, inr, Bo
 use Rattle.jt_syntax.specs.Tree.{Tree, Step, Steps, Arms}
 use Rattle.jt_syntax.specs.Tree as tree
 use Rattle.jt_syntax.specs.declared.script.Identifier.{Identifier}
-use Rattle.jt_syntax.specs.declared.token.Sign.{Sign}
 use Rattle.jt_syntax.specs.declared.token.Sign.TheVariants as sign
 use Rattle.jt_syntax.specs.declared.token.Token.{Token}
 use Rattle.jt_syntax.specs.declared.token.TokenKind.{TokenKind}
 use Rattle.jt_syntax.specs.declared.token.TokenKind.TheVariants as kind
 use Rattle.jt_grammar.specs.declared.Level.{Level}
-use Rattle.jt_grammar.specs.Grammar.{token, ◌▸◌, Mark, Word, InOrAssign, Held, Spells, level, StepSpells, ArmsSpell, Body, Tail, LeapSpells, Follow, class_level, Gap, SomeGap}
+use Rattle.jt_grammar.specs.Grammar.{token, ◌▸◌, Mark, Word, InOrAssign, Held, Spells, level, StepSpells, ArmsSpell, Body, Tail, LeapSpells, Gap, SomeGap}
 use Rattle.jt_grammar.specs.Nesting.{Within, StepWithin, StepsWithin, ArmsWithin, Opened, Opens}
 use Rattle.jt_grammar.specs.Reader.{Parser, same_sign, is, skip, expect, on, ends, is_jump, body, tail, blocked, arms, branched, repeated, loop_header, each_looped, range_looped, is_sum, looped_over, looped, range_loop}
 use Rattle.jt_grammar.proofs.CompleteParts.{opens_some, Kinds, Any, Takes, Passes, Leads, then, last, mark, seen_less, opened, mark_last, on_yes, on_no, nothing, anything, respell, knowing, fewer, ignored, regroup, known, sign_by, lead_then, lead_mark, lead_at, lead_nothing, lead_behind, lead_more}
@@ -36,15 +35,12 @@ leap_is (tree.return_value at e) = lead_then (lead_at refl)
 leap_is (tree.break_loop at) = lead_at refl
 leap_is (tree.continue_loop at) = lead_at refl
 
-guard_starts : (c : tree.Class) (e : Tree) (es : tree.Terms) (s : Sign) (j : tree.Leap) → Leads (Held (suc (class_level c)) e (Spells e) ▸ Follow c es ▸ Mark s ▸ LeapSpells j) Any (λ k. starts_step k ≡ true)
-guard_starts c e es s j = lead_then (lead_any e (omega arith) start-step)
-
 -- the first token of a statement
 pub step_starts : (x : Step) → Leads (StepSpells x) Any (λ k. starts_step k ≡ true)
 step_starts (tree.assign i o e) = lead_then (lead_word refl)
 step_starts (tree.store i e) = lead_then (lead_word refl)
 step_starts (tree.jump j) = lead_more jump-step (leap_is j)
-step_starts (tree.guard c e es j) = record { leads = λ w rest g s. (guard_starts c e es g.0 j).leads w rest g.2 s }
+step_starts (tree.guard c e es j) = lead_then (lead_any e (omega arith) start-step)
 step_starts (tree.value e) = lead_any e (lit≤ tt) start-step
 
 -- no statement begins with what stands behind one

@@ -1,13 +1,17 @@
 -- Chains of operators of one class are read, and so are chains that end in a jump.
 use Rattle.std.proofs.Common.{◌≡◌, ℕ, zero, suc, ◌+◌, ◌<◌, ◌≤◌, ◌⊎◌, inl, inr, Bool, true, false, List, [], ◌∷◌, ◌++◌, length, Ok, Some, refl, sym, ap, subst, ◌∙◌, append_assoc, append-nil, length-append, arith}
-use Rattle.jt_syntax.specs.Tree.{Tree, Terms, Class}
+use Rattle.jt_syntax.specs.Tree.{Tree, Terms}
 use Rattle.jt_syntax.specs.Tree as tree
-use Rattle.jt_syntax.specs.declared.token.Sign.{Sign}
+use Rattle.jt_syntax.specs.View.{operator_class}
+use Rattle.jt_syntax.specs.declared.operator.BinaryOperator.{BinaryOperator}
+use Rattle.jt_syntax.specs.declared.operator.Class.{Class}
+use Rattle.jt_syntax.specs.declared.operator.Class.TheVariants as class
+use Rattle.jt_syntax.specs.declared.token.Sign.TheVariants as sign
 use Rattle.jt_syntax.specs.declared.token.Token.{Token}
 use Rattle.jt_syntax.specs.declared.token.TokenKind.TheVariants as kind
-use Rattle.jt_grammar.specs.Grammar.{token, operator_class, class_level, level, Held, Spells, Follow}
+use Rattle.jt_grammar.specs.Grammar.{token, class_level, level, Held, Spells, Follow}
 use Rattle.jt_grammar.specs.Nesting.{Within, TermsWithin}
-use Rattle.jt_grammar.specs.Reader.{Parser, and_then, ◌>>=◌, pure, kind_of, operates, sign_of, terms, chained, joined_chain, is_jump, guarded_terms}
+use Rattle.jt_grammar.specs.Reader.{Parser, and_then, ◌>>=◌, pure, kind_of, operates, operator_of, terms, chained, joined_chain, is_jump, guarded_terms}
 use Rattle.jt_grammar.proofs.CompleteParts.{Takes, ok_then}
 use Rattle.jt_grammar.proofs.Front.{class_least, class_most, Stops, operator-operates, operator-binds, no_operator}
 
@@ -16,12 +20,12 @@ abbrev pub IsComplete : ℕ → ℕ → ℕ → Parser Tree → Type 0
 IsComplete l d n p = (e : Tree) → Within d e → Takes n (Held l e (Spells e)) (Stops l) p e
 
 class_apart : (b c : Class) → class_level c ≤ class_level b → (b ≡ c) ⊎ (suc (class_level c) ≤ class_level b)
-class_apart tree.or tree.or h = inl refl
-class_apart tree.and tree.and h = inl refl
-class_apart tree.comparison tree.comparison h = inl refl
-class_apart tree.sum tree.sum h = inl refl
-class_apart tree.product tree.product h = inl refl
-class_apart tree.shift tree.shift h = inl refl
+class_apart class.Or class.Or h = inl refl
+class_apart class.And class.And h = inl refl
+class_apart class.Comparison class.Comparison h = inl refl
+class_apart class.Sum class.Sum h = inl refl
+class_apart class.Product class.Product h = inl refl
+class_apart class.Shift class.Shift h = inl refl
 class_apart _ _ h = inr (omega (arith, h))
 
 -- a tree as a chain of the class: its first operand, and the others if there are any
@@ -33,9 +37,9 @@ tighter c e w h g = (e, tree.no_terms, w, [], refl, sym (append-nil w), (h, g), 
 
 split_chain : (c b : Class) (e : Tree) (es : Terms) (w : List Token) → Spells (tree.chain b e es) w → (b ≡ c) ⊎ (suc (class_level c) ≤ class_level b) → Splits c (tree.chain b e es) w
 split_chain c b e tree.no_terms w g a = absurd g.0
-split_chain c b e (tree.term s x xs) w g (inl same) =
-    subst (λ z. Splits z (tree.chain b e (tree.term s x xs)) w) same (e, tree.term s x xs, g.1.0, g.1.1, refl, g.1.2, g.1.3, g.1.4, λ d k. k)
-split_chain c b e (tree.term s x xs) w g (inr h) = tighter c (tree.chain b e (tree.term s x xs)) w h g
+split_chain c b e (tree.term o x xs) w g (inl same) =
+    subst (λ z. Splits z (tree.chain b e (tree.term o x xs)) w) same (e, tree.term o x xs, g.1.0, g.1.1, refl, g.1.2, g.1.3, g.1.4, λ d k. k)
+split_chain c b e (tree.term o x xs) w g (inr h) = tighter c (tree.chain b e (tree.term o x xs)) w h g
 
 pub splits : (c : Class) (e : Tree) (w : List Token) → Held (class_level c) e (Spells e) w → Splits c e w
 splits c (tree.chain b e es) w a = split_chain c b e es w a.1 (class_apart b c a.0)
@@ -44,7 +48,7 @@ splits c e w a = tighter c e w (omega (arith, a.0, class_least c, class_most c))
 -- what stands behind a chain: no operator, or one with a jump's word behind it
 abbrev pub Ending : Class → Bool → List Token → List Token → Type 0
 Ending c false w rest = (w ≡ []) × (operates c (kind_of rest) ≡ false)
-Ending c true w rest = (s : Sign) × (at : ℕ) × (operator_class s ≡ Some c) × (w ≡ token (kind.Sign s) at ∷ []) × (is_jump (kind_of rest) ≡ true)
+Ending c true w rest = (o : BinaryOperator) × (at : ℕ) × (operator_class o ≡ Some c) × (w ≡ token (kind.Sign (sign.Binary o)) at ∷ []) × (is_jump (kind_of rest) ≡ true)
 
 module _ (c : Class) (d n : ℕ) (item : Parser Tree) (complete : IsComplete (suc (class_level c)) d n item) where
   abbrev below : ℕ
@@ -55,7 +59,7 @@ module _ (c : Class) (d n : ℕ) (item : Parser Tree) (complete : IsComplete (su
   behind tree.no_terms v rest f s = subst (λ z. Stops below (kind_of (z ++ rest))) (sym f) s
   behind (tree.term o e es) v rest f s = subst (λ z. Stops below (kind_of (z ++ rest))) (sym (f.1.2 ∙ ap (λ z. z ++ f.1.1) f.1.3.1)) (omega (arith, operator-binds c o f.0))
 
-  turn : (k : ℕ) (t : Token) (ts : List Token) → operates c t.kind ≡ true → terms c item (suc k) (t ∷ ts) ≡ and_then (item ts) (λ e. terms c item k >>= λ es. pure (tree.term (sign_of t.kind) e es))
+  turn : (k : ℕ) (t : Token) (ts : List Token) → operates c t.kind ≡ true → terms c item (suc k) (t ∷ ts) ≡ and_then (item ts) (λ e. terms c item k >>= λ es. pure (tree.term (operator_of t.kind) e es))
   unfolding terms
   turn k t ts e = rw e refl
 
@@ -68,7 +72,7 @@ module _ (c : Class) (d n : ℕ) (item : Parser Tree) (complete : IsComplete (su
   terms_complete k kn tree.no_terms ws w rest f h s o = ap (λ z. terms c item k (z ++ rest)) f ∙ stop k rest o (omega (arith, h))
   terms_complete zero kn (tree.term r e es) ws w rest f h s o = absurd (omega (arith, h))
   terms_complete (suc k) kn (tree.term r e es) ws w rest f h s o =
-      let t = token (kind.Sign r) f.1.3.0 in
+      let t = token (kind.Sign (sign.Binary r)) f.1.3.0 in
       let u = f.1.4.0 in
       let v = f.1.4.1 in
       let shape : w ≡ t ∷ (u ++ v) = f.1.2 ∙ (ap (λ z. z ++ f.1.1) f.1.3.1 ∙ ap (λ z. t ∷ z) f.1.4.2) in
@@ -90,7 +94,7 @@ module _ (c : Class) (d n : ℕ) (item : Parser Tree) (complete : IsComplete (su
     ended true w rest (suc k) a h = subst (λ z. guarded_terms c item (suc k) (z ++ rest) ≡ Ok ((tree.no_terms, true), rest)) (sym a.3) (rw (operator-operates c a.0 a.2, a.4) refl)
 
     guarded_turn : (k : ℕ) (t : Token) (ts : List Token) → operates c t.kind ≡ true → is_jump (kind_of ts) ≡ false
-        → guarded_terms c item (suc k) (t ∷ ts) ≡ and_then (item ts) (λ e. guarded_terms c item k >>= λ r. pure (tree.term (sign_of t.kind) e r.0, r.1))
+        → guarded_terms c item (suc k) (t ∷ ts) ≡ and_then (item ts) (λ e. guarded_terms c item k >>= λ r. pure (tree.term (operator_of t.kind) e r.0, r.1))
     unfolding guarded_terms
     guarded_turn k t ts e f = rw (e, f) refl
 
@@ -99,7 +103,7 @@ module _ (c : Class) (d n : ℕ) (item : Parser Tree) (complete : IsComplete (su
     guarded_complete k kn tree.no_terms ws b w x rest f h s o = ap (λ z. guarded_terms c item k (z ++ (x ++ rest))) f ∙ ended b x rest k o (omega (arith, h))
     guarded_complete zero kn (tree.term r e es) ws b w x rest f h s o = absurd (omega (arith, h))
     guarded_complete (suc k) kn (tree.term r e es) ws b w x rest f h s o =
-        let t = token (kind.Sign r) f.1.3.0 in
+        let t = token (kind.Sign (sign.Binary r)) f.1.3.0 in
         let u = f.1.4.0 in
         let v = f.1.4.1 in
         let after = v ++ (x ++ rest) in

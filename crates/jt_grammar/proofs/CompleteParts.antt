@@ -1,14 +1,13 @@
 -- Readers that take what a rule has and no more, part by part.
 use Rattle.std.proofs.Common.{◌≡◌, ℕ, zero, suc, ◌+◌, ◌<◌, ◌≤◌, ◌⊎◌, inl, inr, true, false, List, [], ◌∷◌, ◌++◌, length, Ok, refl, sym, ap, subst, ◌∙◌, append_assoc, length-append, arith}
-use denote.Enum.Bare.{true_same}
-use Rattle.jt_syntax.specs.contracts.token.Sign.{the_type}
 use Rattle.jt_syntax.specs.declared.token.Sign.{Sign}
 use Rattle.jt_syntax.specs.declared.token.Token.{Token}
 use Rattle.jt_syntax.specs.declared.token.TokenKind.{TokenKind}
 use Rattle.jt_syntax.specs.declared.token.TokenKind.TheVariants as kind
 use Rattle.jt_grammar.specs.Grammar.{token, Rule, ◌▸◌, ◌∣◌, Nothing, Mark, MarkAt}
 use Rattle.jt_grammar.specs.Nesting.{Opened, Opens}
-use Rattle.jt_grammar.specs.Reader.{Outcome, Parser, and_then, ◌>>=◌, pure, kind_of, same_sign, is, skip, expect, enter, opening, by_kind, on}
+use Rattle.jt_grammar.specs.Reader.{Outcome, Parser, and_then, ◌>>=◌, pure, kind_of, is, skip, expect, enter, opening, by_kind, on}
+use Rattle.jt_grammar.proofs.Signs.{same_sign-refl}
 
 pub ok_then : {A B : Type 0} (o : Outcome A) (a : A) (rest : List Token) (f : A → Parser B) (r : Outcome B) → o ≡ Ok (a, rest) → f a rest ≡ r → and_then o f ≡ r
 ok_then o a rest f r e h = ap (λ z. and_then z f) e ∙ h
@@ -53,8 +52,7 @@ lead_behind {M = M} l r = record { leads = λ w rest g s. subst (λ z. M (kind_o
 -- ---- marks
 
 pub known : (s : Sign) → is s (kind.Sign s) ≡ true
-unfolding same_sign
-known s = true_same the_type s s refl
+known s = same_sign-refl s
 
 pub sign_by : {A : Type 0} (s : Sign) (at : ℕ) (ts : List Token) (p q : Parser A) → on s p q (token (kind.Sign s) at ∷ ts) ≡ p (token (kind.Sign s) at ∷ ts)
 sign_by s at ts p q = rw (known s) refl

@@ -1,17 +1,21 @@
 -- Statements are read.
-use Rattle.std.proofs.Common.{◌≡◌, ℕ, suc, ◌+◌, ◌≤◌, ◌<◌, Bool, true, false, true≢false, ◌||◌, cond, is_some, List, [], ◌∷◌, ◌++◌, length, Some, None, unwrap_or, Ok, refl, sym, ap, subst, ◌∙◌, append_assoc, append-nil, length-append, lit≤, lit<, arith}
-use Rattle.jt_syntax.specs.Tree.{Tree, Terms, Leap, Step, Class}
+use Rattle.std.proofs.Common.{◌≡◌, ℕ, suc, ◌+◌, ◌≤◌, ◌<◌, Bool, true, false, true≢false, ◌||◌, cond, List, [], ◌∷◌, ◌++◌, length, Some, None, Ok, refl, sym, ap, subst, ◌∙◌, append_assoc, append-nil, length-append, lit≤, lit<, arith}
+use Rattle.jt_syntax.specs.Tree.{Tree, Terms, Leap, Step}
 use Rattle.jt_syntax.specs.Tree as tree
+use Rattle.jt_syntax.specs.View.{connective_class}
 use Rattle.jt_syntax.specs.declared.operator.AssignmentOperator.{AssignmentOperator}
 use Rattle.jt_syntax.specs.declared.operator.AssignmentOperator.TheVariants as assignment
+use Rattle.jt_syntax.specs.declared.operator.BinaryOperator.TheVariants as binary
+use Rattle.jt_syntax.specs.declared.operator.Class.TheVariants as class
+use Rattle.jt_syntax.specs.declared.operator.Connective.{Connective}
+use Rattle.jt_syntax.specs.declared.operator.Connective.TheVariants as connective
 use Rattle.jt_syntax.specs.declared.script.Identifier.{Identifier}
-use Rattle.jt_syntax.specs.declared.token.Sign.{Sign}
 use Rattle.jt_syntax.specs.declared.token.Sign.TheVariants as sign
 use Rattle.jt_syntax.specs.declared.token.Token.{Token}
 use Rattle.jt_syntax.specs.declared.token.TokenKind.{TokenKind}
 use Rattle.jt_syntax.specs.declared.token.TokenKind.TheVariants as kind
 use Rattle.jt_grammar.specs.declared.Level.{Level}
-use Rattle.jt_grammar.specs.Grammar.{token, Rule, ◌▸◌, Nothing, Mark, MarkAt, Word, Held, Spells, level, class_level, operator_class, connective, assignment_sign, Follow, LeapSpells, StepSpells}
+use Rattle.jt_grammar.specs.Grammar.{token, Rule, ◌▸◌, Nothing, Mark, MarkAt, Word, Held, Spells, level, class_level, assignment_sign, Follow, LeapSpells, StepSpells}
 use Rattle.jt_grammar.specs.Nesting.{Within, TermsWithin, LeapWithin, StepWithin}
 use Rattle.jt_grammar.specs.Reader.{Parser, ◌>>=◌, pure, kind_of, skip, ends, is_separator, is_jump, guarded_terms, comparison, conjunction, chosen, whole, returned, leap_by, leap, assignment_of, assigned_by, assigned, or_guarded, and_guarded, plain_step, step_by, stepped}
 use Rattle.jt_grammar.proofs.CompleteParts.{Kinds, Any, Takes, Leads, ok_then, last, seen, at_by, by, by_same, nothing, single, respell, regroup, lead_then, lead_mark, lead_at, lead_nothing}
@@ -21,7 +25,7 @@ use Rattle.jt_grammar.proofs.CompleteLevels.{AllRead}
 use Rattle.jt_grammar.proofs.CompleteExpressions.{comparison_complete, conjunction_complete, chosen_complete, not_chosen}
 use Rattle.jt_grammar.proofs.CompleteMacros.{whole_complete}
 use Rattle.jt_grammar.proofs.CompleteBlocks.{closes-stop, leap_is}
-use Rattle.jt_grammar.proofs.Front.{Stops, Closes, starts, starts-closes, starts_operand, starts_block, lead_any, lead_operand, lead_block, operator-binds, no_operator, class_least}
+use Rattle.jt_grammar.proofs.Front.{Stops, Closes, starts, starts-closes, starts_operand, starts_block, lead_any, lead_operand, lead_block, no_operator, class_least}
 
 -- ---- kinds of tokens
 
@@ -65,15 +69,6 @@ assignment_stops assignment.Remainder = lit< tt
 -- no operand begins with a jump's word
 no_jump : (l : ℕ) → 2 ≤ l → (e : Tree) (u rest : List Token) → Held l e (Spells e) u → is_jump (kind_of (u ++ rest)) ≡ false
 no_jump l h e u rest g = let x : Leads (Held l e (Spells e)) Any (λ k. is_jump k ≡ false) = lead_operand e h operand-no_jump in x.leads u rest g tt
-
--- the operator of a connective
-connects : (c : Class) (s : Sign) → connective c ≡ Some s → operator_class s ≡ Some c
-connects tree.or s e = subst (λ z. operator_class z ≡ Some tree.or) (ap (λ o. unwrap_or o sign.Stop) e) refl
-connects tree.and s e = subst (λ z. operator_class z ≡ Some tree.and) (ap (λ o. unwrap_or o sign.Stop) e) refl
-connects c s e = absurd (no_connective e)
-  where
-    no_connective : None ≡ Some s → ⊥
-    no_connective e = true≢false (sym (ap is_some e))
 
 module _ (n d : ℕ) (expr_in : Level → Parser Tree) (step_in : Parser Step) (below : (k : ℕ) → d ≡ suc k → AllRead n k expr_in step_in) where
   -- ---- jumps
@@ -123,58 +118,58 @@ module _ (n d : ℕ) (expr_in : Level → Parser Tree) (step_in : Parser Step) (
   plain = plain_step n d expr_in step_in
 
   abbrev or_next : Tree → Parser Step
-  or_next e = guarded_terms tree.or (conjunction n d expr_in step_in) n >>= or_guarded n d expr_in step_in e
+  or_next e = guarded_terms class.Or (conjunction n d expr_in step_in) n >>= or_guarded n d expr_in step_in e
 
   abbrev chosen_next : Tree → Parser Step
   chosen_next e = chosen n d expr_in step_in e >>= assigned n d expr_in step_in
 
-  below_and : IsComplete (suc (class_level tree.and)) d n (comparison n d expr_in step_in)
+  below_and : IsComplete (suc (class_level class.And)) d n (comparison n d expr_in step_in)
   below_and = comparison_complete n d expr_in step_in below
 
-  below_or : IsComplete (suc (class_level tree.or)) d n (conjunction n d expr_in step_in)
+  below_or : IsComplete (suc (class_level class.Or)) d n (conjunction n d expr_in step_in)
   below_or = conjunction_complete n d expr_in step_in below
 
   -- the operands of `&&` behind the first one, and perhaps `&&` before a jump
-  and_terms : (first : Tree) → Within d first → (es : Terms) → TermsWithin d es → (b : Bool) (u v x rest : List Token) → Held 5 first (Spells first) u → Follow tree.and es v → length u + length v < n
-      → Stops 5 (kind_of (x ++ rest)) → Ending tree.and b x rest
+  and_terms : (first : Tree) → Within d first → (es : Terms) → TermsWithin d es → (b : Bool) (u v x rest : List Token) → Held 5 first (Spells first) u → Follow class.And es v → length u + length v < n
+      → Stops 5 (kind_of (x ++ rest)) → Ending class.And b x rest
       → plain (u ++ (v ++ (x ++ rest))) ≡ and_guarded n d expr_in step_in first (es, b) rest
   and_terms first wf es ws b u v x rest g f h s o =
-      ok_then (comparison n d expr_in step_in (u ++ (v ++ (x ++ rest)))) first (v ++ (x ++ rest)) _ _ ((below_and first wf).takes u (v ++ (x ++ rest)) g (omega (arith, h)) (behind tree.and d n (comparison n d expr_in step_in) below_and es v (x ++ rest) f s))
-      (ok_then (guarded_terms tree.and (comparison n d expr_in step_in) n (v ++ (x ++ rest))) (es, b) rest _ _
-      (guarded_complete tree.and d n (comparison n d expr_in step_in) below_and (no_jump 5 (lit≤ tt)) n (omega arith) es ws b v x rest f (omega (arith, h)) s o) refl)
+      ok_then (comparison n d expr_in step_in (u ++ (v ++ (x ++ rest)))) first (v ++ (x ++ rest)) _ _ ((below_and first wf).takes u (v ++ (x ++ rest)) g (omega (arith, h)) (behind class.And d n (comparison n d expr_in step_in) below_and es v (x ++ rest) f s))
+      (ok_then (guarded_terms class.And (comparison n d expr_in step_in) n (v ++ (x ++ rest))) (es, b) rest _ _
+      (guarded_complete class.And d n (comparison n d expr_in step_in) below_and (no_jump 5 (lit≤ tt)) n (omega arith) es ws b v x rest f (omega (arith, h)) s o) refl)
 
   and_front : (e : Tree) → Within d e → (w rest : List Token) → Held 4 e (Spells e) w → length w < n → Stops 4 (kind_of rest) → plain (w ++ rest) ≡ or_next e rest
-  and_front e o w rest a h s = go (splits tree.and e w a)
+  and_front e o w rest a h s = go (splits class.And e w a)
     where
-      go : Splits tree.and e w → plain (w ++ rest) ≡ or_next e rest
+      go : Splits class.And e w → plain (w ++ rest) ≡ or_next e rest
       go x =
           let u = x.2 in
           let v = x.3 in
           let ks = x.8 d o in
           let size : length w ≡ length u + length v = ap length x.5 ∙ length-append u v in
           ap plain (ap (λ z. z ++ rest) x.5 ∙ append_assoc u v rest)
-          ∙ (and_terms x.0 ks.0 x.1 ks.1 false u v [] rest x.6 x.7 (omega (arith, size, h)) (omega (arith, s)) (refl, no_operator tree.and (kind_of rest) s)
+          ∙ (and_terms x.0 ks.0 x.1 ks.1 false u v [] rest x.6 x.7 (omega (arith, size, h)) (omega (arith, s)) (refl, no_operator class.And (kind_of rest) s)
           ∙ ap (λ z. or_next z rest) (sym x.4))
 
-  or_terms : (first : Tree) → Within d first → (es : Terms) → TermsWithin d es → (b : Bool) (u v x rest : List Token) → Held 4 first (Spells first) u → Follow tree.or es v → length u + length v < n
-      → Stops 4 (kind_of (x ++ rest)) → Ending tree.or b x rest
+  or_terms : (first : Tree) → Within d first → (es : Terms) → TermsWithin d es → (b : Bool) (u v x rest : List Token) → Held 4 first (Spells first) u → Follow class.Or es v → length u + length v < n
+      → Stops 4 (kind_of (x ++ rest)) → Ending class.Or b x rest
       → plain (u ++ (v ++ (x ++ rest))) ≡ or_guarded n d expr_in step_in first (es, b) rest
   or_terms first wf es ws b u v x rest g f h s o =
-      and_front first wf u (v ++ (x ++ rest)) g (omega (arith, h)) (behind tree.or d n (conjunction n d expr_in step_in) below_or es v (x ++ rest) f s)
-      ∙ ok_then (guarded_terms tree.or (conjunction n d expr_in step_in) n (v ++ (x ++ rest))) (es, b) rest _ _
-      (guarded_complete tree.or d n (conjunction n d expr_in step_in) below_or (no_jump 4 (lit≤ tt)) n (omega arith) es ws b v x rest f (omega (arith, h)) s o) refl
+      and_front first wf u (v ++ (x ++ rest)) g (omega (arith, h)) (behind class.Or d n (conjunction n d expr_in step_in) below_or es v (x ++ rest) f s)
+      ∙ ok_then (guarded_terms class.Or (conjunction n d expr_in step_in) n (v ++ (x ++ rest))) (es, b) rest _ _
+      (guarded_complete class.Or d n (conjunction n d expr_in step_in) below_or (no_jump 4 (lit≤ tt)) n (omega arith) es ws b v x rest f (omega (arith, h)) s o) refl
 
   or_front : (e : Tree) → Within d e → (w rest : List Token) → Held 3 e (Spells e) w → length w < n → Stops 3 (kind_of rest) → plain (w ++ rest) ≡ chosen_next e rest
-  or_front e o w rest a h s = go (splits tree.or e w a)
+  or_front e o w rest a h s = go (splits class.Or e w a)
     where
-      go : Splits tree.or e w → plain (w ++ rest) ≡ chosen_next e rest
+      go : Splits class.Or e w → plain (w ++ rest) ≡ chosen_next e rest
       go x =
           let u = x.2 in
           let v = x.3 in
           let ks = x.8 d o in
           let size : length w ≡ length u + length v = ap length x.5 ∙ length-append u v in
           ap plain (ap (λ z. z ++ rest) x.5 ∙ append_assoc u v rest)
-          ∙ (or_terms x.0 ks.0 x.1 ks.1 false u v [] rest x.6 x.7 (omega (arith, size, h)) (omega (arith, s)) (refl, no_operator tree.or (kind_of rest) s)
+          ∙ (or_terms x.0 ks.0 x.1 ks.1 false u v [] rest x.6 x.7 (omega (arith, size, h)) (omega (arith, s)) (refl, no_operator class.Or (kind_of rest) s)
           ∙ ap (λ z. chosen_next z rest) (sym x.4))
 
   plain_front : (e : Tree) → 3 ≤ level e → Within d e → (w rest : List Token) → Spells e w → length w < n → Stops 2 (kind_of rest) → plain (w ++ rest) ≡ assigned n d expr_in step_in e rest
@@ -279,15 +274,12 @@ module _ (n d : ℕ) (expr_in : Level → Parser Tree) (step_in : Parser Step) (
 
   -- ---- chains that end in a jump
 
-  abbrev GuardForm : Class → Tree → Terms → Leap → Sign → Rule
-  GuardForm c e es j s = Held (suc (class_level c)) e (Spells e) ▸ Follow c es ▸ Mark s ▸ LeapSpells j
-
   -- where the expression and the operands are read, up to the jump
-  jump_by : (c : Class) (e : Tree) (es : Terms) (j : Leap) (s : Sign) → operator_class s ≡ Some c → LeapWithin d j
-      → ((u v x rest : List Token) → Held (suc (class_level c)) e (Spells e) u → Follow c es v → length u + length v < n → Stops (suc (class_level c)) (kind_of (x ++ rest)) → Ending c true x rest
+  jump_by : (c : Connective) (e : Tree) (es : Terms) (j : Leap) → LeapWithin d j
+      → ((u v x rest : List Token) → Held (suc (class_level (connective_class c))) e (Spells e) u → Follow (connective_class c) es v → length u + length v < n → Stops (suc (class_level (connective_class c))) (kind_of (x ++ rest)) → Ending (connective_class c) true x rest
       → plain (u ++ (v ++ (x ++ rest))) ≡ (leap n d expr_in step_in >>= λ j. pure (tree.guard c e es j)) rest)
-      → Takes n (GuardForm c e es j s) Closes (plain_step n d expr_in step_in) (tree.guard c e es j)
-  jump_by c e es j s is_s wj up_to = record {
+      → Takes n (StepSpells (tree.guard c e es j)) Closes (plain_step n d expr_in step_in) (tree.guard c e es j)
+  jump_by c e es j wj up_to = record {
     takes = λ w rest g h k.
         let u = g.0 in
         let v = g.4.0 in
@@ -298,23 +290,19 @@ module _ (n d : ℕ) (expr_in : Level → Parser Tree) (step_in : Parser Step) (
         ∙ (append_assoc u (v ++ (x ++ y)) rest ∙ (ap (λ z. u ++ z) (append_assoc v (x ++ y) rest) ∙ ap (λ z. u ++ (v ++ z)) (append_assoc x y rest))) in
         let size : length w ≡ length u + (length v + (length x + length y)) =
         ap length g.2 ∙ (length-append u g.1 ∙ ap (λ z. length u + z) (ap length g.4.2 ∙ (length-append v g.4.1 ∙ ap (λ z. length v + z) (ap length g.4.4.2 ∙ length-append x y)))) in
-        let sign_stops : Stops (suc (class_level c)) (kind_of (x ++ (y ++ rest))) = subst (λ z. Stops (suc (class_level c)) (kind_of (z ++ (y ++ rest)))) (sym g.4.4.3.1) (omega (arith, operator-binds c s is_s)) in
+        let sign_stops : Stops (suc (class_level (connective_class c))) (kind_of (x ++ (y ++ rest))) = subst (λ z. Stops (suc (class_level (connective_class c))) (kind_of (z ++ (y ++ rest)))) (sym g.4.4.3.1) (omega arith) in
         ap plain shape
-        ∙ (up_to u v x (y ++ rest) g.3 g.4.3 (omega (arith, size, h)) sign_stops (s, g.4.4.3.0, is_s, g.4.4.3.1, (leap_is j).leads y rest g.4.4.4 tt)
+        ∙ (up_to u v x (y ++ rest) g.3 g.4.3 (omega (arith, size, h)) sign_stops (binary.Connective c, g.4.4.3.0, refl, g.4.4.3.1, (leap_is j).leads y rest g.4.4.4 tt)
         ∙ ok_then (leap n d expr_in step_in (y ++ rest)) j rest _ _ ((leap_complete j wj).takes y rest g.4.4.4 (omega (arith, size, h)) k) refl);
   }
 
-  jump_form : (c : Class) (e : Tree) (es : Terms) (j : Leap) (s : Sign) → connective c ≡ Some s → StepWithin d (tree.guard c e es j) → Takes n (GuardForm c e es j s) Closes (plain_step n d expr_in step_in) (tree.guard c e es j)
-  jump_form tree.or e es j s is_s o = jump_by tree.or e es j s (connects tree.or s is_s) o.2 (or_terms e o.0 es o.1 true)
-  jump_form tree.and e es j s is_s o = jump_by tree.and e es j s (connects tree.and s is_s) o.2 (and_terms e o.0 es o.1 true)
-  jump_form c e es j s is_s o = absurd (true≢false (sym (ap is_some is_s)))
+  jump_form : (c : Connective) (e : Tree) (es : Terms) (j : Leap) → StepWithin d (tree.guard c e es j) → Takes n (StepSpells (tree.guard c e es j)) Closes (plain_step n d expr_in step_in) (tree.guard c e es j)
+  jump_form connective.Or e es j o = jump_by connective.Or e es j o.2 (or_terms e o.0 es o.1 true)
+  jump_form connective.And e es j o = jump_by connective.And e es j o.2 (and_terms e o.0 es o.1 true)
 
-  guard_complete : (c : Class) (e : Tree) (es : Terms) (j : Leap) → StepWithin d (tree.guard c e es j) → Takes n (StepSpells (tree.guard c e es j)) Closes (stepped n d expr_in step_in) (tree.guard c e es j)
+  guard_complete : (c : Connective) (e : Tree) (es : Terms) (j : Leap) → StepWithin d (tree.guard c e es j) → Takes n (StepSpells (tree.guard c e es j)) Closes (stepped n d expr_in step_in) (tree.guard c e es j)
   unfolding stepped
-  guard_complete c e es j o = record {
-    takes = λ w rest g h k.
-        (by_same (step_by n d expr_in step_in) (plain_step n d expr_in step_in) (lead_then (lead_operand e (omega (arith, class_least c)) operand-plain)) (jump_form c e es j g.0 g.1 o)).takes w rest g.2 h k;
-  }
+  guard_complete c e es j o = by_same (step_by n d expr_in step_in) (plain_step n d expr_in step_in) (lead_then (lead_operand e (omega (arith, class_least (connective_class c))) operand-plain)) (jump_form c e es j o)
 
   jump_complete : (j : Leap) → LeapWithin d j → Takes n (LeapSpells j) Closes (stepped n d expr_in step_in) (tree.jump j)
   unfolding stepped

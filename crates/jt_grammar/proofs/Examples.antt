@@ -2,7 +2,11 @@
 use Rattle.std.proofs.Common.{◌≡◌, ℕ, suc, List, [], ◌∷◌, ◌++◌, Ok, Err, Some, None, true, codes, refl}
 use Rattle.jt_syntax.specs.Tree.{Form, TopTree}
 use Rattle.jt_syntax.specs.Tree as tree
+use Rattle.jt_syntax.specs.declared.operator.ArithmeticOperator.TheVariants as arithmetic
 use Rattle.jt_syntax.specs.declared.operator.AssignmentOperator.TheVariants as assignment
+use Rattle.jt_syntax.specs.declared.operator.BinaryOperator.TheVariants as binary
+use Rattle.jt_syntax.specs.declared.operator.Class.TheVariants as class
+use Rattle.jt_syntax.specs.declared.operator.Connective.TheVariants as connective
 use Rattle.jt_syntax.specs.declared.operator.UnaryOperator.TheVariants as unary
 use Rattle.jt_syntax.specs.declared.script.Identifier.{Identifier}
 use Rattle.jt_syntax.specs.declared.script.Pool.TheVariants as pools
@@ -11,7 +15,7 @@ use Rattle.jt_syntax.specs.declared.token.Sign.TheVariants as sign
 use Rattle.jt_syntax.specs.declared.token.Token.{Token}
 use Rattle.jt_syntax.specs.declared.token.TokenKind.{TokenKind}
 use Rattle.jt_syntax.specs.declared.token.TokenKind.TheVariants as kind
-use Rattle.jt_grammar.specs.Grammar.{token}
+use Rattle.jt_grammar.specs.Grammar.{token, power_sign}
 use Rattle.jt_grammar.specs.Joined.{joined}
 use Rattle.jt_grammar.specs.Reader.{Outcome, unexpected, deep, read_top, read, read_step, script}
 use Rattle.jt_grammar.specs.Reader as r
@@ -24,6 +28,15 @@ placed n (k ∷ ks) = token k n ∷ placed (suc n) ks
 abbrev mark : Sign → TokenKind
 mark s = kind.Sign s
 
+abbrev plus : Sign
+plus = sign.Binary (binary.Arithmetic arithmetic.Add)
+
+abbrev minus : Sign
+minus = sign.Binary (binary.Arithmetic arithmetic.Subtract)
+
+abbrev and_also : Sign
+and_also = sign.Binary (binary.Connective connective.And)
+
 abbrev letter : TokenKind
 letter = kind.Name (codes "a")
 
@@ -32,12 +45,14 @@ at n = record { name = codes "a"; at = n }
 
 -- ---- joined lines
 
--- behind an operator a newline is dropped, before one it ends the line; in parentheses newlines are dropped, but not in a block in them
-pub joined_lines : (joined (placed 0 (letter ∷ mark sign.Plus ∷ mark sign.Newline ∷ kind.Number 1 ∷ [])) ≡ token letter 0 ∷ token (mark sign.Plus) 1 ∷ token (kind.Number 1) 3 ∷ [])
-    × (joined (placed 0 (letter ∷ mark sign.Newline ∷ mark sign.Plus ∷ kind.Number 1 ∷ [])) ≡ placed 0 (letter ∷ mark sign.Newline ∷ mark sign.Plus ∷ kind.Number 1 ∷ []))
+-- behind an operator a newline is dropped, before one it ends the line; in parentheses newlines are dropped, but not in a block in them; `]` doesn't close `(`
+pub joined_lines : (joined (placed 0 (letter ∷ mark plus ∷ mark sign.Newline ∷ kind.Number 1 ∷ [])) ≡ token letter 0 ∷ token (mark plus) 1 ∷ token (kind.Number 1) 3 ∷ [])
+    × (joined (placed 0 (letter ∷ mark sign.Newline ∷ mark plus ∷ kind.Number 1 ∷ [])) ≡ placed 0 (letter ∷ mark sign.Newline ∷ mark plus ∷ kind.Number 1 ∷ []))
     × (joined (placed 0 (mark sign.Open ∷ mark sign.Newline ∷ mark sign.Begin ∷ mark sign.Newline ∷ mark sign.End ∷ mark sign.Newline ∷ mark sign.Close ∷ []))
     ≡ token (mark sign.Open) 0 ∷ token (mark sign.Begin) 2 ∷ token (mark sign.Newline) 3 ∷ token (mark sign.End) 4 ∷ token (mark sign.Close) 6 ∷ [])
-joined_lines = (refl, refl, refl)
+    × (joined (placed 0 (mark sign.Open ∷ mark sign.CloseSquare ∷ mark sign.Newline ∷ mark sign.Close ∷ mark sign.Newline ∷ []))
+    ≡ token (mark sign.Open) 0 ∷ token (mark sign.CloseSquare) 1 ∷ token (mark sign.Close) 3 ∷ token (mark sign.Newline) 4 ∷ [])
+joined_lines = (refl, refl, refl, refl)
 
 -- ---- what is read, or where it is refused: by how many tokens are left there
 
@@ -64,11 +79,11 @@ openers = (refl, refl, refl, refl, refl)
 -- `a(a) = 1` is a function, `a(1) = 1` is refused at the `=`; a jump may stand behind `&&` in a statement, but not in parentheses; one node for a chain, and a power holds more tightly than its sign
 pub statements : Reads 1 (letter ∷ mark sign.Open ∷ letter ∷ mark sign.Close ∷ mark sign.Assign ∷ kind.Number 1 ∷ []) (one (tree.short (at 0) (at 2 ∷ []) (tree.number 1)))
     × Reads 1 (letter ∷ mark sign.Open ∷ kind.Number 1 ∷ mark sign.Close ∷ mark sign.Assign ∷ kind.Number 1 ∷ []) (Err (unexpected 3))
-    × Reads 1 (letter ∷ mark sign.AndAlso ∷ mark sign.Break ∷ []) (one (tree.plain (tree.guard tree.and (tree.name (at 0)) tree.no_terms (tree.break_loop 2))))
-    × Reads 1 (mark sign.Open ∷ letter ∷ mark sign.AndAlso ∷ mark sign.Break ∷ mark sign.Close ∷ []) (Err (unexpected 3))
-    × Reads 1 (kind.Number 1 ∷ mark sign.Plus ∷ kind.Number 2 ∷ mark sign.Minus ∷ kind.Number 3 ∷ [])
-    (one (tree.plain (tree.value (tree.chain tree.sum (tree.number 1) (tree.term sign.Plus (tree.number 2) (tree.term sign.Minus (tree.number 3) tree.no_terms))))))
-    × Reads 2 (mark sign.Minus ∷ letter ∷ mark sign.Caret ∷ kind.Number 2 ∷ []) (one (tree.plain (tree.value (tree.unary unary.Minus (tree.power (tree.name (at 1)) (tree.number 2))))))
+    × Reads 1 (letter ∷ mark and_also ∷ mark sign.Break ∷ []) (one (tree.plain (tree.guard connective.And (tree.name (at 0)) tree.no_terms (tree.break_loop 2))))
+    × Reads 1 (mark sign.Open ∷ letter ∷ mark and_also ∷ mark sign.Break ∷ mark sign.Close ∷ []) (Err (unexpected 3))
+    × Reads 1 (kind.Number 1 ∷ mark plus ∷ kind.Number 2 ∷ mark minus ∷ kind.Number 3 ∷ [])
+    (one (tree.plain (tree.value (tree.chain class.Sum (tree.number 1) (tree.term (binary.Arithmetic arithmetic.Add) (tree.number 2) (tree.term (binary.Arithmetic arithmetic.Subtract) (tree.number 3) tree.no_terms))))))
+    × Reads 2 (mark minus ∷ letter ∷ mark power_sign ∷ kind.Number 2 ∷ []) (one (tree.plain (tree.value (tree.unary unary.Minus (tree.power (tree.name (at 1)) (tree.number 2))))))
 unfolding script read_top read read_step r.topped r.stepped r.whole r.condition r.disjunction r.conjunction r.comparison r.sum r.product r.shift r.operand r.power r.primary r.leap r.word r.gap r.list_of r.commas r.terms r.guarded_terms r.same_sign r.same_class
 statements = (refl, refl, refl, refl, refl, refl)
 

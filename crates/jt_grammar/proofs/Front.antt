@@ -1,7 +1,13 @@
 -- The first token of a tree, and what may stand behind one.
 use Rattle.std.proofs.Common.{◌≡◌, ℕ, suc, ◌≤◌, ◌<◌, Bool, true, false, true≢false, ◌||◌, List, ◌++◌, Option, Some, None, refl, sym, ap, subst, ◌∙◌, lit≤, arith}
-use Rattle.jt_syntax.specs.Tree.{Tree, Class}
+use Rattle.jt_syntax.specs.Tree.{Tree}
 use Rattle.jt_syntax.specs.Tree as tree
+use Rattle.jt_syntax.specs.View.{operator_class}
+use Rattle.jt_syntax.specs.declared.operator.ArithmeticOperator.TheVariants as arithmetic
+use Rattle.jt_syntax.specs.declared.operator.BinaryOperator.{BinaryOperator}
+use Rattle.jt_syntax.specs.declared.operator.BinaryOperator.TheVariants as binary
+use Rattle.jt_syntax.specs.declared.operator.Class.{Class}
+use Rattle.jt_syntax.specs.declared.operator.Class.TheVariants as class
 use Rattle.jt_syntax.specs.declared.operator.UnaryOperator.{UnaryOperator}
 use Rattle.jt_syntax.specs.declared.operator.UnaryOperator.TheVariants as unary
 use Rattle.jt_syntax.specs.declared.script.Identifier.{Identifier}
@@ -9,27 +15,28 @@ use Rattle.jt_syntax.specs.declared.token.Sign.{Sign}
 use Rattle.jt_syntax.specs.declared.token.Sign.TheVariants as sign
 use Rattle.jt_syntax.specs.declared.token.TokenKind.{TokenKind}
 use Rattle.jt_syntax.specs.declared.token.TokenKind.TheVariants as kind
-use Rattle.jt_grammar.specs.Grammar.{operator_class, class_level, level, Mark, Word, Letters, Number, Quoted, Truth, Held, Spells, unary_sign}
-use Rattle.jt_grammar.specs.Reader.{kind_of, is, same_class, is_of, operates, is_separator, ends}
-use Rattle.jt_grammar.proofs.Signs.{is-true}
+use Rattle.jt_grammar.specs.Grammar.{class_level, level, Mark, Word, Letters, Number, Quoted, Truth, Held, Spells, unary_sign}
+use Rattle.jt_grammar.specs.Reader.{kind_of, is, is_of, operates, is_separator, ends}
+use Rattle.jt_grammar.proofs.Signs.{is-true, same_class-true, same_class-refl}
 use Rattle.jt_grammar.proofs.CompleteParts.{Kinds, Any, Leads, lead_then, lead_mark, lead_at}
 
 -- ---- what goes on with an expression
 
 abbrev other_binds : Sign → ℕ
 other_binds sign.Question = 2
-other_binds sign.Caret = 10
 other_binds sign.Open = 12
 other_binds sign.OpenSquare = 12
 other_binds _ = 0
 
-abbrev binds_by : Option Class → Sign → ℕ
-binds_by (Some c) s = class_level c
-binds_by None s = other_binds s
+-- `^` alone is of no class
+abbrev operator_binds : Option Class → ℕ
+operator_binds (Some c) = class_level c
+operator_binds None = 10
 
 -- the level of the loosest rule that could go on with the token
 abbrev pub binds : TokenKind → ℕ
-binds (kind.Sign s) = binds_by (operator_class s) s
+binds (kind.Sign (sign.Binary o)) = operator_binds (operator_class o)
+binds (kind.Sign s) = other_binds s
 binds (kind.Number _) = 0
 binds (kind.Name _) = 0
 binds (kind.Text _) = 0
@@ -60,53 +67,35 @@ not_sign ok s k without with_it = go (is s k) refl
 -- ---- classes of operators
 
 pub class_least : (c : Class) → 3 ≤ class_level c
-class_least tree.or = lit≤ tt
-class_least tree.and = lit≤ tt
-class_least tree.comparison = lit≤ tt
-class_least tree.sum = lit≤ tt
-class_least tree.product = lit≤ tt
-class_least tree.shift = lit≤ tt
+class_least class.Or = lit≤ tt
+class_least class.And = lit≤ tt
+class_least class.Comparison = lit≤ tt
+class_least class.Sum = lit≤ tt
+class_least class.Product = lit≤ tt
+class_least class.Shift = lit≤ tt
 
 pub class_most : (c : Class) → class_level c ≤ 8
-class_most tree.or = lit≤ tt
-class_most tree.and = lit≤ tt
-class_most tree.comparison = lit≤ tt
-class_most tree.sum = lit≤ tt
-class_most tree.product = lit≤ tt
-class_most tree.shift = lit≤ tt
-
-pub same_class-refl : (c : Class) → same_class c c ≡ true
-unfolding same_class
-same_class-refl tree.or = refl
-same_class-refl tree.and = refl
-same_class-refl tree.comparison = refl
-same_class-refl tree.sum = refl
-same_class-refl tree.product = refl
-same_class-refl tree.shift = refl
-
-pub same_class-true : (d c : Class) → same_class d c ≡ true → d ≡ c
-unfolding same_class
-same_class-true tree.or tree.or e = refl
-same_class-true tree.and tree.and e = refl
-same_class-true tree.comparison tree.comparison e = refl
-same_class-true tree.sum tree.sum e = refl
-same_class-true tree.product tree.product e = refl
-same_class-true tree.shift tree.shift e = refl
-same_class-true _ _ e = absurd (true≢false (sym e))
+class_most class.Or = lit≤ tt
+class_most class.And = lit≤ tt
+class_most class.Comparison = lit≤ tt
+class_most class.Sum = lit≤ tt
+class_most class.Product = lit≤ tt
+class_most class.Shift = lit≤ tt
 
 -- an operator of the class
-pub operator-operates : (c : Class) (s : Sign) → operator_class s ≡ Some c → operates c (kind.Sign s) ≡ true
-operator-operates c s e = ap (is_of c) e ∙ same_class-refl c
+pub operator-operates : (c : Class) (o : BinaryOperator) → operator_class o ≡ Some c → operates c (kind.Sign (sign.Binary o)) ≡ true
+operator-operates c o e = ap (is_of c) e ∙ same_class-refl c
 
-pub operator-binds : (c : Class) (s : Sign) → operator_class s ≡ Some c → binds (kind.Sign s) ≡ class_level c
-operator-binds c s e = ap (λ o. binds_by o s) e
+pub operator-binds : (c : Class) (o : BinaryOperator) → operator_class o ≡ Some c → binds (kind.Sign (sign.Binary o)) ≡ class_level c
+operator-binds c o e = ap operator_binds e
 
-class_binds : (c : Class) (s : Sign) (o : Option Class) → is_of c o ≡ true → binds_by o s ≡ class_level c
-class_binds c s None e = absurd (true≢false (sym e))
-class_binds c s (Some d) e = ap class_level (same_class-true d c e)
+class_binds : (c : Class) (o : Option Class) → is_of c o ≡ true → operator_binds o ≡ class_level c
+class_binds c None e = absurd (true≢false (sym e))
+class_binds c (Some d) e = ap class_level (same_class-true d c e)
 
 operates-binds : (c : Class) (k : TokenKind) → operates c k ≡ true → binds k ≡ class_level c
-operates-binds c (kind.Sign s) e = class_binds c s (operator_class s) e
+operates-binds c (kind.Sign (sign.Binary o)) e = class_binds c (operator_class o) e
+operates-binds c (kind.Sign _) e = absurd (true≢false (sym e))
 operates-binds c (kind.Number _) e = absurd (true≢false (sym e))
 operates-binds c (kind.Name _) e = absurd (true≢false (sym e))
 operates-binds c (kind.Text _) e = absurd (true≢false (sym e))
@@ -141,8 +130,8 @@ starts_primary (kind.Sign _) = false
 
 -- of operands
 abbrev pub starts_operand : TokenKind → Bool
-starts_operand (kind.Sign sign.Minus) = true
-starts_operand (kind.Sign sign.Plus) = true
+starts_operand (kind.Sign (sign.Binary (binary.Arithmetic arithmetic.Subtract))) = true
+starts_operand (kind.Sign (sign.Binary (binary.Arithmetic arithmetic.Add))) = true
 starts_operand (kind.Sign sign.Not) = true
 starts_operand (kind.Sign sign.Tilde) = true
 starts_operand k = starts_primary k
@@ -190,8 +179,8 @@ starts_form (tree.unary _ _) = starts_operand
 starts_form _ = starts_primary
 
 primary-operand : (k : TokenKind) → starts_primary k ≡ true → starts_operand k ≡ true
-primary-operand (kind.Sign sign.Minus) e = refl
-primary-operand (kind.Sign sign.Plus) e = refl
+primary-operand (kind.Sign (sign.Binary (binary.Arithmetic arithmetic.Subtract))) e = refl
+primary-operand (kind.Sign (sign.Binary (binary.Arithmetic arithmetic.Add))) e = refl
 primary-operand (kind.Sign sign.Not) e = refl
 primary-operand (kind.Sign sign.Tilde) e = refl
 primary-operand (kind.Sign _) e = e

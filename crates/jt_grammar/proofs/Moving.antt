@@ -1,10 +1,14 @@
 -- Each rule looks no further than the token at which it is refused, and more turns and openers change no outcome that didn't want them.
 use Rattle.std.proofs.Common.{◌≡◌, ℕ, zero, suc, ◌-◌, ◌≤◌, Bool, true, false, List, [], ◌∷◌, Option, Some, None, codes, refl, sym, subst, arith}
 use Rattle.std.specs.Str.{bytes_eq}
-use Rattle.jt_syntax.specs.Tree.{Tree, Trees, Terms, Arms, Leap, Step, Steps, Form, TopTree, Class}
+use Rattle.jt_syntax.specs.Tree.{Tree, Trees, Terms, Step, Form}
 use Rattle.jt_syntax.specs.Tree as tree
+use Rattle.jt_syntax.specs.declared.operator.ArithmeticOperator.TheVariants as arithmetic
 use Rattle.jt_syntax.specs.declared.operator.AssignmentOperator.{AssignmentOperator}
 use Rattle.jt_syntax.specs.declared.operator.AssignmentOperator.TheVariants as assignment
+use Rattle.jt_syntax.specs.declared.operator.BinaryOperator.TheVariants as binary
+use Rattle.jt_syntax.specs.declared.operator.Class.TheVariants as class
+use Rattle.jt_syntax.specs.declared.operator.Connective.TheVariants as connective
 use Rattle.jt_syntax.specs.declared.operator.UnaryOperator.{UnaryOperator}
 use Rattle.jt_syntax.specs.declared.operator.UnaryOperator.TheVariants as unary_operator
 use Rattle.jt_syntax.specs.declared.script.Identifier.{Identifier}
@@ -19,7 +23,8 @@ use Rattle.jt_grammar.specs.declared.Level.{Level}
 use Rattle.jt_grammar.specs.declared.Level.TheVariants as levels
 use Rattle.jt_grammar.specs.declared.Target.{Target}
 use Rattle.jt_grammar.specs.declared.Target.TheVariants as targets
-use Rattle.jt_grammar.specs.Reader.{Parser, ◌>>=◌, ◌>>◌, pure, skip, by_kind, word_by, word, letters_by, letters, quoted_by, quoted, truth, joined_chain, is_separator, ends, target, step_target, assignment_of, notified_with_all, notified_alone, place_of}
+use Rattle.jt_grammar.specs.Grammar.{unary_sign, power_sign}
+use Rattle.jt_grammar.specs.Reader.{Parser, ◌>>=◌, ◌>>◌, pure, skip, by_kind, word_by, word, letters_by, letters, quoted_by, quoted, truth, joined_chain, is_separator, ends, target, step_target, assignment_of, notified_with_all, notified_alone}
 use Rattle.jt_grammar.specs.Reader as r
 use Rattle.jt_grammar.specs.Joined.{demanded}
 use Rattle.jt_grammar.proofs.MovingSteps.{Moving, bind, then_moving, pure_moving, skip_moving, refuse_moving, spent_moving, by_kind_moving, by_place_moving, choice_moving, if_moving, test_moving, on_moving, expect_moving, Reach, Closed, closed_behind, closed_before, closed_opening, Refused, entering_moving, plain_opening_moving, opening_moving, weaker, chained_moving, guarded_terms_moving, comma_list_moving, body_moving, tail_moving}
@@ -174,15 +179,15 @@ module _ (n n' d d' : ℕ) (fewer : n ≤ n') (shallower : d ≤ d') (expr expr'
   primary_moving = by_kind_moving primary_by_moving
 
   raised_moving : (a : Tree) → Goes (r.raised n d expr step a) (r.raised n' d' expr' step' a)
-  raised_moving a = entering_moving d d' sign.Caret shallower refl (bind (expr_moving levels.Operand) (λ b. pure_moving (tree.power a b))) (pure_moving a)
+  raised_moving a = entering_moving d d' power_sign shallower refl (bind (expr_moving levels.Operand) (λ b. pure_moving (tree.power a b))) (pure_moving a)
 
   power_moving : Goes (r.power n d expr step) (r.power n' d' expr' step')
   unfolding r.power
   power_moving = bind primary_moving raised_moving
 
   operand_by_moving : (k : TokenKind) → Goes (r.operand_by n d expr step k) (r.operand_by n' d' expr' step' k)
-  operand_by_moving (kind.Sign sign.Minus) = negated_moving sign.Minus unary_operator.Minus refl
-  operand_by_moving (kind.Sign sign.Plus) = negated_moving sign.Plus unary_operator.Plus refl
+  operand_by_moving (kind.Sign (sign.Binary (binary.Arithmetic arithmetic.Subtract))) = negated_moving (unary_sign unary_operator.Minus) unary_operator.Minus refl
+  operand_by_moving (kind.Sign (sign.Binary (binary.Arithmetic arithmetic.Add))) = negated_moving (unary_sign unary_operator.Plus) unary_operator.Plus refl
   operand_by_moving (kind.Sign sign.Not) = negated_moving sign.Not unary_operator.Not refl
   operand_by_moving (kind.Sign sign.Tilde) = negated_moving sign.Tilde unary_operator.Complement refl
   operand_by_moving (kind.Sign _) = power_moving
@@ -196,27 +201,27 @@ module _ (n n' d d' : ℕ) (fewer : n ≤ n') (shallower : d ≤ d') (expr expr'
 
   shift_moving : Goes (r.shift n d expr step) (r.shift n' d' expr' step')
   unfolding r.shift
-  shift_moving = chained_moving tree.shift operand_moving n n' fewer
+  shift_moving = chained_moving class.Shift operand_moving n n' fewer
 
   product_moving : Goes (r.product n d expr step) (r.product n' d' expr' step')
   unfolding r.product
-  product_moving = chained_moving tree.product shift_moving n n' fewer
+  product_moving = chained_moving class.Product shift_moving n n' fewer
 
   sum_moving : Goes (r.sum n d expr step) (r.sum n' d' expr' step')
   unfolding r.sum
-  sum_moving = chained_moving tree.sum product_moving n n' fewer
+  sum_moving = chained_moving class.Sum product_moving n n' fewer
 
   comparison_moving : Goes (r.comparison n d expr step) (r.comparison n' d' expr' step')
   unfolding r.comparison
-  comparison_moving = chained_moving tree.comparison sum_moving n n' fewer
+  comparison_moving = chained_moving class.Comparison sum_moving n n' fewer
 
   conjunction_moving : Goes (r.conjunction n d expr step) (r.conjunction n' d' expr' step')
   unfolding r.conjunction
-  conjunction_moving = chained_moving tree.and comparison_moving n n' fewer
+  conjunction_moving = chained_moving class.And comparison_moving n n' fewer
 
   disjunction_moving : Goes (r.disjunction n d expr step) (r.disjunction n' d' expr' step')
   unfolding r.disjunction
-  disjunction_moving = chained_moving tree.or conjunction_moving n n' fewer
+  disjunction_moving = chained_moving class.Or conjunction_moving n n' fewer
 
   chosen_moving : (c : Tree) → Goes (r.chosen n d expr step c) (r.chosen n' d' expr' step' c)
   chosen_moving c =
@@ -379,14 +384,14 @@ module _ (n n' d d' : ℕ) (fewer : n ≤ n') (shallower : d ≤ d') (expr expr'
   assigned_moving e = by_kind_moving (λ k. assigned_by_moving e (assignment_of k))
 
   or_guarded_moving : (e : Tree) (p : Terms × Bool) → Goes (r.or_guarded n d expr step e p) (r.or_guarded n' d' expr' step' e p)
-  or_guarded_moving e p = choice_moving p.1 (bind leap_moving (λ j. pure_moving (tree.guard tree.or e p.0 j))) (bind (chosen_moving (joined_chain tree.or e p.0)) assigned_moving)
+  or_guarded_moving e p = choice_moving p.1 (bind leap_moving (λ j. pure_moving (tree.guard connective.Or e p.0 j))) (bind (chosen_moving (joined_chain class.Or e p.0)) assigned_moving)
 
   and_guarded_moving : (e : Tree) (p : Terms × Bool) → Goes (r.and_guarded n d expr step e p) (r.and_guarded n' d' expr' step' e p)
   and_guarded_moving e p =
-      choice_moving p.1 (bind leap_moving (λ j. pure_moving (tree.guard tree.and e p.0 j))) (bind (guarded_terms_moving tree.or conjunction_moving n n' fewer) (or_guarded_moving (joined_chain tree.and e p.0)))
+      choice_moving p.1 (bind leap_moving (λ j. pure_moving (tree.guard connective.And e p.0 j))) (bind (guarded_terms_moving class.Or conjunction_moving n n' fewer) (or_guarded_moving (joined_chain class.And e p.0)))
 
   plain_step_moving : Goes (r.plain_step n d expr step) (r.plain_step n' d' expr' step')
-  plain_step_moving = bind comparison_moving (λ e. bind (guarded_terms_moving tree.and comparison_moving n n' fewer) (λ p. and_guarded_moving e p))
+  plain_step_moving = bind comparison_moving (λ e. bind (guarded_terms_moving class.And comparison_moving n n' fewer) (λ p. and_guarded_moving e p))
 
   jumped_moving : Goes (r.leap n d expr step >>= λ j. pure (tree.jump j)) (r.leap n' d' expr' step' >>= λ j. pure (tree.jump j))
   jumped_moving = bind leap_moving (λ j. pure_moving (tree.jump j))

@@ -1,7 +1,8 @@
 -- A rule looks no further than the token at which it is refused, and more turns and openers change no outcome that didn't want them: what holds of each way to put rules together.
 use Rattle.std.proofs.Common.{◌≡◌, ℕ, zero, suc, ◌+◌, ◌<◌, ◌≤◌, ◌⊎◌, inl, inr, Bool, true, false, List, [], ◌∷◌, ◌++◌, length, Ok, Err, cond, refl, sym, ap, subst, length-append, arith}
-use Rattle.jt_syntax.specs.Tree.{Tree, Terms, Class}
+use Rattle.jt_syntax.specs.Tree.{Tree}
 use Rattle.jt_syntax.specs.Tree as tree
+use Rattle.jt_syntax.specs.declared.operator.Class.{Class}
 use Rattle.jt_syntax.specs.declared.token.Sign.{Sign}
 use Rattle.jt_syntax.specs.declared.token.Sign.TheVariants as sign
 use Rattle.jt_syntax.specs.declared.token.Token.{Token}
@@ -9,7 +10,7 @@ use Rattle.jt_syntax.specs.declared.token.TokenKind.{TokenKind}
 use Rattle.jt_syntax.specs.declared.token.TokenKind.TheVariants as kind
 use Rattle.jt_grammar.specs.Joined.{demanded}
 use Rattle.jt_grammar.proofs.Signs.{is-true}
-use Rattle.jt_grammar.specs.Reader.{Fault, unexpected, deep, spent, Outcome, Parser, and_then, ◌>>=◌, ◌>>◌, pure, refuse, kind_of, place_of, is, skip, by_kind, on, expect, enter, opening, operates, sign_of, joined_chain, terms, chained, is_jump, guarded_terms, commas, comma_list, is_separator, gap, ends, list_of, body_of, tail_of}
+use Rattle.jt_grammar.specs.Reader.{Fault, unexpected, deep, spent, Outcome, Parser, and_then, ◌>>=◌, ◌>>◌, pure, refuse, kind_of, place_of, is, skip, by_kind, on, expect, enter, opening, operates, operator_of, joined_chain, terms, chained, is_jump, guarded_terms, commas, comma_list, is_separator, gap, ends, list_of, body_of, tail_of}
 
 -- ---- an outcome leaves no more tokens than there were
 
@@ -288,7 +289,7 @@ module _ {D : TokenKind → Type 0} (c : Class) {item item' : Parser Tree} (item
   terms_moving zero k' h = spent_moving (terms c item' k')
   terms_moving (suc k) zero h = absurd (omega (arith, h))
   terms_moving (suc k) (suc k') h =
-      test_moving (operates c) (bind skip_moving (λ t. bind item_moving (λ e. bind (terms_moving k k' (omega (arith, h))) (λ es. pure_moving (tree.term (sign_of t.kind) e es))))) (pure_moving tree.no_terms)
+      test_moving (operates c) (bind skip_moving (λ t. bind item_moving (λ e. bind (terms_moving k k' (omega (arith, h))) (λ es. pure_moving (tree.term (operator_of t.kind) e es))))) (pure_moving tree.no_terms)
 
   pub guarded_terms_moving : (k k' : ℕ) → k ≤ k' → Moving D (guarded_terms c item k) (guarded_terms c item' k')
   unfolding guarded_terms
@@ -296,7 +297,7 @@ module _ {D : TokenKind → Type 0} (c : Class) {item item' : Parser Tree} (item
   guarded_terms_moving (suc k) zero h = absurd (omega (arith, h))
   guarded_terms_moving (suc k) (suc k') h =
       test_moving (operates c)
-      (bind skip_moving (λ t. test_moving is_jump (pure_moving (tree.no_terms, true)) (bind item_moving (λ e. bind (guarded_terms_moving k k' (omega (arith, h))) (λ r. pure_moving (tree.term (sign_of t.kind) e r.0, r.1))))))
+      (bind skip_moving (λ t. test_moving is_jump (pure_moving (tree.no_terms, true)) (bind item_moving (λ e. bind (guarded_terms_moving k k' (omega (arith, h))) (λ r. pure_moving (tree.term (operator_of t.kind) e r.0, r.1))))))
       (pure_moving (tree.no_terms, false))
 
   pub chained_moving : (n n' : ℕ) → n ≤ n' → Moving D (chained n c item) (chained n' c item')

@@ -1,7 +1,9 @@
 -- Tokens of the same kinds spell trees that are equal up to places.
 use Rattle.std.proofs.Common.{◌≡◌, ℕ, suc, ◌≤◌, ◌<◌, Bool, true, false, inl, inr, List, [], ◌∷◌, ◌++◌, map, length, Option, Some, None, refl, sym, ap, subst, ◌∙◌, codes, arith}
-use Rattle.jt_syntax.specs.Tree.{Tree, Trees, Terms, Arms, Leap, Step, Steps, Form, TopTree, Class}
+use Rattle.jt_syntax.specs.Tree.{Tree, Trees, Terms, Arms, Leap, Step, Steps, Form, TopTree}
 use Rattle.jt_syntax.specs.Tree as tree
+use Rattle.jt_syntax.specs.View.{connective_class}
+use Rattle.jt_syntax.specs.declared.operator.Class.{Class}
 use Rattle.jt_syntax.specs.declared.script.Identifier.{Identifier}
 use Rattle.jt_syntax.specs.declared.script.Pool.{Pool}
 use Rattle.jt_syntax.specs.declared.script.Schedule.{Schedule}
@@ -299,11 +301,11 @@ mutual
 
   terms_moved : (c : Class) (es : Terms) (g : Shifted (Follow c es)) → Found (Follow c) bare_terms es g.to
   terms_moved c tree.no_terms g = (tree.no_terms, nothing g, refl)
-  terms_moved c (tree.term s e es) g =
+  terms_moved c (tree.term o e es) g =
       let r = rest (under g) in
       let f = held (suc (class_level c)) e (tree_moved e) (first r) in
       let fs = terms_moved c es (rest r) in
-      (tree.term s f.0 fs.0, (g.spelled.0, both (under g) (one (first (under g))) (both r f.1 fs.1)), ap2 (tree.term s) f.2 fs.2)
+      (tree.term o f.0 fs.0, (g.spelled.0, both (under g) (one (first (under g))) (both r f.1 fs.1)), ap2 (tree.term o) f.2 fs.2)
 
   arms_moved : (arms : Arms) (g : Shifted (ArmsSpell arms)) → Found ArmsSpell bare_arms arms g.to
   arms_moved tree.no_arms g = (tree.no_arms, nothing g, refl)
@@ -336,11 +338,10 @@ mutual
       (tree.store j.0 f.0, both g j.1 (both (rest g) (one (first (rest g))) (both (rest (rest g)) (one (first (rest (rest g)))) (both (rest (rest (rest g))) (one (first (rest (rest (rest g))))) f.1))), ap2 tree.store j.2 f.2)
   step_moved (tree.jump j) g = let l = leap_moved j g in (tree.jump l.0, l.1, ap tree.jump l.2)
   step_moved (tree.guard c e es j) g =
-      let r : Shifted (Held (suc (class_level c)) e (Spells e) ▸ Follow c es ▸ Mark g.spelled.0 ▸ LeapSpells j) = record { from = g.from; to = g.to; spelled = g.spelled.2; alike = g.alike } in
-      let f = held (suc (class_level c)) e (tree_moved e) (first r) in
-      let fs = terms_moved c es (first (rest r)) in
-      let l = leap_moved j (rest (rest (rest r))) in
-      (tree.guard c f.0 fs.0 l.0, (g.spelled.0, g.spelled.1, both r f.1 (both (rest r) fs.1 (both (rest (rest r)) (one (first (rest (rest r)))) l.1))), ap3 (tree.guard c) f.2 fs.2 l.2)
+      let f = held (suc (class_level (connective_class c))) e (tree_moved e) (first g) in
+      let fs = terms_moved (connective_class c) es (first (rest g)) in
+      let l = leap_moved j (rest (rest (rest g))) in
+      (tree.guard c f.0 fs.0 l.0, both g f.1 (both (rest g) fs.1 (both (rest (rest g)) (one (first (rest (rest g)))) l.1)), ap3 (tree.guard c) f.2 fs.2 l.2)
   step_moved (tree.value e) g = let f = held 1 e (tree_moved e) g in (tree.value f.0, f.1, ap tree.value f.2)
 
   steps_moved : (xs : Steps) (g : Shifted (Body xs)) → Found Body bare_steps xs g.to

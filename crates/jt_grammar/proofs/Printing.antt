@@ -1,11 +1,14 @@
 -- What is printed spells the tree that was printed, its places apart; and a law of the kinds that it was read from, which all
 -- printed signs keep, holds of what is printed.
-use Rattle.std.proofs.Common.{◌≡◌, ℕ, suc, ◌≤◌, Bool, true, false, inl, List, [], ◌∷◌, ◌++◌, map, Option, Some, None, refl, sym, subst, codes, arith}
+use Rattle.std.proofs.Common.{◌≡◌, ℕ, ◌≤◌, Bool, true, false, inl, List, [], ◌∷◌, ◌++◌, map, Option, Some, None, refl, sym, subst, codes, arith}
 use Rattle.std.proofs.lemmas.List.{map-append}
-use Rattle.jt_syntax.specs.Tree.{Tree, Trees, Terms, Arms, Leap, Step, Steps, Form, TopTree, Class}
+use Rattle.jt_syntax.specs.Tree.{Tree, Trees, Terms, Arms, Leap, Step, Steps, Form, TopTree}
 use Rattle.jt_syntax.specs.Tree as tree
+use Rattle.jt_syntax.specs.View.{connective_class}
 use Rattle.jt_syntax.specs.declared.operator.AssignmentOperator.{AssignmentOperator}
 use Rattle.jt_syntax.specs.declared.operator.AssignmentOperator.TheVariants as assignment
+use Rattle.jt_syntax.specs.declared.operator.BinaryOperator.TheVariants as binary
+use Rattle.jt_syntax.specs.declared.operator.Class.{Class}
 use Rattle.jt_syntax.specs.declared.operator.UnaryOperator.{UnaryOperator}
 use Rattle.jt_syntax.specs.declared.operator.UnaryOperator.TheVariants as unary
 use Rattle.jt_syntax.specs.declared.script.Identifier.{Identifier}
@@ -19,7 +22,7 @@ use Rattle.jt_syntax.specs.declared.token.Token.{Token}
 use Rattle.jt_syntax.specs.declared.token.TokenKind.{TokenKind}
 use Rattle.jt_syntax.specs.declared.token.TokenKind.TheVariants as kind
 use Rattle.jt_grammar.specs.Grammar as grammar
-use Rattle.jt_grammar.specs.Grammar.{token, Rule, ◌▸◌, ◌∣◌, Mark, MarkAt, Word, Letters, Held, IsSome, level, operator_class, class_level, connective, unary_sign, assignment_sign, Spells, Listed, Commas, Follow, ArmsSpell, LeapSpells, StepSpells, Body, Tail, MoreNames, Names, FormSpells, TopSpells, TopsTail, TopsBody, ScriptSpells, OfInt64, InOrAssign, PoolWord, ScheduleWord, StartsAt}
+use Rattle.jt_grammar.specs.Grammar.{token, Rule, ◌▸◌, ◌∣◌, Mark, MarkAt, Word, Letters, Held, IsSome, level, unary_sign, power_sign, assignment_sign, Spells, Listed, Commas, Follow, ArmsSpell, LeapSpells, StepSpells, Body, Tail, MoreNames, Names, FormSpells, TopSpells, TopsTail, TopsBody, ScriptSpells, OfInt64, InOrAssign, PoolWord, ScheduleWord, StartsAt}
 use Rattle.jt_grammar.specs.Joined.{is_newline}
 use Rattle.jt_grammar.specs.Printed.{◌⁀◌, bare_script, script_kinds, mark, word, quoted, truth_kinds, of_int64, pool_kinds, schedule_kinds, tree_kinds, list_kinds, comma_kinds, term_kinds, arms_kinds, leap_kinds, step_kinds, steps_kinds, more_names_kinds, names_kinds, form_kinds, bare_identifier, bare, bare_trees, bare_terms, bare_arms, bare_leap, bare_step, bare_steps, bare_form}
 use Rattle.jt_grammar.proofs.Steps.{NoNewline}
@@ -84,15 +87,6 @@ pub record Prints (P : TokenKind → Type 0) (R : Rule) (ks : List TokenKind) : 
   spells : R (unplaced ks)
   kept : Each P ks
 
-none_some : {A : Type 0} (a : A) → None ≡ Some a → ⊥
-none_some a e = grind arith
-
-operator_printed : (s : Sign) (c : Class) → operator_class s ≡ Some c → IsPrinted s
-operator_printed sign.Reserved c e = absurd (none_some c e)
-operator_printed sign.Newline c e = absurd (none_some c e)
-operator_printed sign.Stop c e = absurd (none_some c e)
-operator_printed s c e = tt
-
 unary_printed : (o : UnaryOperator) → IsPrinted (unary_sign o)
 unary_printed unary.Minus = tt
 unary_printed o = tt
@@ -107,7 +101,7 @@ level-bare e = refl
 
 pub is_some-bare : (es : Terms) → IsSome es → IsSome (bare_terms es)
 is_some-bare tree.no_terms a = a
-is_some-bare (tree.term s e es) a = tt
+is_some-bare (tree.term o e es) a = tt
 
 -- ---- something is printed for each form
 
@@ -249,10 +243,6 @@ module _ (P : TokenKind → Type 0) (allows : Allows P) where
   schedule_at (Some schedule.Static) = seq colon_at (letters (codes "static") allows.static)
   schedule_at (Some schedule.Dynamic) = seq colon_at (letters (codes "dynamic") allows.dynamic)
 
-  -- behind a connective's sign
-  connected : (c : Class) (s : Sign) {R : Sign → Rule} {ks : List TokenKind} → connective c ≡ Some s → Prints P (R s) ks → Prints P (λ w. (r : Sign) × (connective c ≡ Some r) × R r w) ks
-  connected c s e p = record { spells = (s, e, p.spells); kept = p.kept }
-
   -- ---- trees
 
   -- behind the `for` of a loop over a range
@@ -260,12 +250,6 @@ module _ (P : TokenKind → Type 0) (allows : Allows P) where
       → Given P (Word i ▸ InOrAssign ▸ Held 6 a (Spells a) ▸ Mark sign.Colon ▸ Held 6 b (Spells b) ▸ Tail ss ▸ Mark sign.End)
       → Prints P (Word (bare_identifier i) ▸ InOrAssign ▸ Held 6 (bare a) (Spells (bare a)) ▸ Mark sign.Colon ▸ Held 6 (bare b) (Spells (bare b)) ▸ Tail (bare_steps ss) ▸ Mark sign.End) (word i.name ⁀ mark sign.In ⁀ tree_kinds a ⁀ mark sign.Colon ⁀ tree_kinds b ⁀ mark sign.Semicolon ⁀ steps_kinds ss ⁀ mark sign.End)
   range_printed i a b ss of_a of_b of_ss g = seq (identifier i (first g)) (seq in_at (seq (held 6 a of_a (first (rest (rest g)))) (seq colon_at (seq (held 6 b of_b (first (rest (rest (rest (rest g)))))) (seq (of_ss (first (rest (rest (rest (rest (rest g))))))) end_at)))))
-
-  -- a chain, its operator once more, and a jump
-  guarded : (c : Class) (s r : Sign) → IsPrinted s → (e : Tree) (es : Terms) (j : Leap) → (Given P (Spells e) → Prints P (Spells (bare e)) (tree_kinds e)) → (Given P (Follow c es) → Prints P (Follow c (bare_terms es)) (term_kinds es)) → (Given P (LeapSpells j) → Prints P (LeapSpells (bare_leap j)) (leap_kinds j))
-      → Given P (Held (suc (class_level c)) e (Spells e) ▸ Follow c es ▸ Mark r ▸ LeapSpells j)
-      → Prints P (Held (suc (class_level c)) (bare e) (Spells (bare e)) ▸ Follow c (bare_terms es) ▸ Mark s ▸ LeapSpells (bare_leap j)) (tree_kinds e ⁀ term_kinds es ⁀ mark s ⁀ leap_kinds j)
-  guarded c s r p e es j of_e of_es of_j g = seq (held _ e of_e (first g)) (seq (of_es (first (rest g))) (seq (sign_at s p) (of_j (rest (rest (rest g))))))
 
   mutual
     pub tree_printed : (e : Tree) → Given P (Spells e) → Prints P (Spells (bare e)) (tree_kinds e)
@@ -287,7 +271,7 @@ module _ (P : TokenKind → Type 0) (allows : Allows P) where
     tree_printed (tree.random_in a b) g = seq (sign_at sign.Rand tt) (seq open_at (seq (held 6 a (tree_printed a) (first (rest (rest g)))) (seq colon_at (seq (held 6 b (tree_printed b) (first (rest (rest (rest (rest g)))))) close_at))))
     tree_printed (tree.notify e b) g = seq (letters (codes "notify") allows.notify) (seq open_at (seq (held 1 e (tree_printed e) (first (rest (rest g)))) (seq comma_at (seq (letters (codes "all") allows.all) (seq (sign_at sign.Assign tt) (seq (truth b) close_at))))))
     tree_printed (tree.read i) g = seq (identifier i (first g)) (seq (sign_at sign.OpenSquare tt) (sign_at sign.CloseSquare tt))
-    tree_printed (tree.power a b) g = seq (held 11 a (tree_printed a) (first g)) (seq (sign_at sign.Caret tt) (held 9 b (tree_printed b) (rest (rest g))))
+    tree_printed (tree.power a b) g = seq (held 11 a (tree_printed a) (first g)) (seq (sign_at power_sign tt) (held 9 b (tree_printed b) (rest (rest g))))
     tree_printed (tree.unary o e) g = seq (sign_at (unary_sign o) (unary_printed o)) (held 9 e (tree_printed e) (rest g))
     tree_printed (tree.chain c e es) g = beside (is_some-bare es g.spelled.0) (seq (held _ e (tree_printed e) (first (under g))) (terms_printed c es (rest (under g))))
     tree_printed (tree.conditional c a b) g = seq (held 3 c (tree_printed c) (first g)) (seq (sign_at sign.Question tt) (seq (held 2 a (tree_printed a) (first (rest (rest g)))) (seq colon_at (held 2 b (tree_printed b) (rest (rest (rest (rest g))))))))
@@ -311,7 +295,7 @@ module _ (P : TokenKind → Type 0) (allows : Allows P) where
 
     terms_printed : (c : Class) (es : Terms) → Given P (Follow c es) → Prints P (Follow c (bare_terms es)) (term_kinds es)
     terms_printed c tree.no_terms g = nothing_at
-    terms_printed c (tree.term s e es) g = beside g.spelled.0 (seq (sign_at s (operator_printed s c g.spelled.0)) (seq (held _ e (tree_printed e) (first (rest (under g)))) (terms_printed c es (rest (rest (under g))))))
+    terms_printed c (tree.term o e es) g = beside g.spelled.0 (seq (sign_at (sign.Binary o) tt) (seq (held _ e (tree_printed e) (first (rest (under g)))) (terms_printed c es (rest (rest (under g))))))
 
     arms_printed : (arms : Arms) → Given P (ArmsSpell arms) → Prints P (ArmsSpell (bare_arms arms)) (arms_kinds arms)
     arms_printed tree.no_arms g = nothing_at
@@ -328,9 +312,7 @@ module _ (P : TokenKind → Type 0) (allows : Allows P) where
     step_printed (tree.assign i o e) g = seq (identifier i (first g)) (seq (sign_at (assignment_sign o) (assignment_printed o)) (held 1 e (tree_printed e) (rest (rest g))))
     step_printed (tree.store i e) g = seq (identifier i (first g)) (seq (sign_at sign.OpenSquare tt) (seq (sign_at sign.CloseSquare tt) (seq (sign_at sign.Assign tt) (held 1 e (tree_printed e) (rest (rest (rest (rest g))))))))
     step_printed (tree.jump j) g = leap_printed j g
-    step_printed (tree.guard tree.or e es j) g = connected tree.or sign.OrElse refl (guarded tree.or sign.OrElse g.spelled.0 tt e es j (tree_printed e) (terms_printed tree.or es) (leap_printed j) (record { tokens = g.tokens; spelled = g.spelled.2; allowed = g.allowed }))
-    step_printed (tree.guard tree.and e es j) g = connected tree.and sign.AndAlso refl (guarded tree.and sign.AndAlso g.spelled.0 tt e es j (tree_printed e) (terms_printed tree.and es) (leap_printed j) (record { tokens = g.tokens; spelled = g.spelled.2; allowed = g.allowed }))
-    step_printed (tree.guard c e es j) g = absurd (none_some g.spelled.0 g.spelled.1)
+    step_printed (tree.guard c e es j) g = seq (held _ e (tree_printed e) (first g)) (seq (terms_printed (connective_class c) es (first (rest g))) (seq (sign_at (sign.Binary (binary.Connective c)) tt) (leap_printed j (rest (rest (rest g))))))
     step_printed (tree.value e) g = held 1 e (tree_printed e) g
 
     steps_printed : (xs : Steps) → Given P (Body xs) → Prints P (Body (bare_steps xs)) (steps_kinds xs)

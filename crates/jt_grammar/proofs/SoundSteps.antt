@@ -1,9 +1,13 @@
 -- What statements explain: jumps, assignments, tests that guard a jump, and expressions.
 use Rattle.std.proofs.Common.{◌≡◌, ℕ, suc, ◌<◌, ◌⊎◌, inl, inr, Bool, true, false, true≢false, is_some, cond, List, [], ◌∷◌, ◌++◌, Ok, Option, Some, None, option_map, refl, sym, ap, subst, ◌∙◌, append_assoc, append-nil, arith, lit<}
-use Rattle.jt_syntax.specs.Tree.{Tree, Trees, Terms, Leap, Step, Class}
+use Rattle.jt_syntax.specs.Tree.{Tree, Trees, Terms, Leap, Step}
 use Rattle.jt_syntax.specs.Tree as tree
+use Rattle.jt_syntax.specs.View.{connective_class}
 use Rattle.jt_syntax.specs.declared.operator.AssignmentOperator.{AssignmentOperator}
 use Rattle.jt_syntax.specs.declared.operator.AssignmentOperator.TheVariants as assignment
+use Rattle.jt_syntax.specs.declared.operator.Class.TheVariants as class
+use Rattle.jt_syntax.specs.declared.operator.Connective.{Connective}
+use Rattle.jt_syntax.specs.declared.operator.Connective.TheVariants as connective
 use Rattle.jt_syntax.specs.declared.script.Identifier.{Identifier}
 use Rattle.jt_syntax.specs.declared.token.Sign.TheVariants as sign
 use Rattle.jt_syntax.specs.declared.token.Token.{Token}
@@ -221,30 +225,28 @@ module _ (n d : ℕ) (expr_in : Level → Parser Tree) (step_in : Parser Step) (
   abbrev WithinTerms : Bool → Terms → Type 0
   WithinTerms b es = TermsWithin (deeper d b) es
 
-  guard_is : (c : Class) (e : Tree) (es : Terms) (j : Leap) (w v z : List Token) → At (suc (class_level c)) e w → TermsOr c es true v → LeapSpells j z → StepSpells (tree.guard c e es j) (w ++ (v ++ z))
-  guard_is c e es j w v z g h l =
-      let x = h.2 in
-      (h.0, h.1, (w, v ++ z, refl, g, (x.0, x.1 ++ z, ap (λ q. q ++ z) x.2 ∙ append_assoc x.0 x.1 z, x.3, (x.1, z, refl, x.4, l))))
+  guard_is : (c : Connective) (e : Tree) (es : Terms) (j : Leap) (w v z : List Token) → At (suc (class_level (connective_class c))) e w → TermsOr c es true v → LeapSpells j z → StepSpells (tree.guard c e es j) (w ++ (v ++ z))
+  guard_is c e es j w v z g h l = (w, v ++ z, refl, g, (h.0, h.1 ++ z, ap (λ q. q ++ z) h.2 ∙ append_assoc h.0 h.1 z, h.3, (h.1, z, refl, h.4, l)))
 
   module _ {C : Bool → Type 0} {H : Step → Rule} (e : Tree) (w : List Token) (g : At 4 e w) (within : (b : Bool) → C b → WithinBy d b e) (lift : (x : Step) (y : List Token) → StepSpells x (w ++ y) → H x y)
       (es : Terms) (u : List Token) (terms_within : (b : Bool) → C b → WithinTerms b es) where
-    or_behind : (b : Bool) → TermsOr tree.or es b u → Reads C (After u H) (StepBy d) n (or_guarded n d expr_in step_in e (es, b))
-    or_behind true h = last (λ j. tree.guard tree.or e es j) (given (λ b c. tt) leap_reads) (λ j z l. lift (tree.guard tree.or e es j) (u ++ z) (guard_is tree.or e es j w u z g h l)) (λ j b c k. (within b c, terms_within b c, k))
-    or_behind false h = part (chosen_reads n d expr_in step_in below (joined_chain tree.or e es) (w ++ u) (joined_spells (deeper d) n tree.or (conjunction n d expr_in step_in) (conjunction_reads n d expr_in step_in below) e es w u g h)
-        (λ b c. joined_within (deeper d) n tree.or (conjunction n d expr_in step_in) (conjunction_reads n d expr_in step_in below) e es b (within b c) (terms_within b c)))
+    or_behind : (b : Bool) → TermsOr connective.Or es b u → Reads C (After u H) (StepBy d) n (or_guarded n d expr_in step_in e (es, b))
+    or_behind true h = last (λ j. tree.guard connective.Or e es j) (given (λ b c. tt) leap_reads) (λ j z l. lift (tree.guard connective.Or e es j) (u ++ z) (guard_is connective.Or e es j w u z g h l)) (λ j b c k. (within b c, terms_within b c, k))
+    or_behind false h = part (chosen_reads n d expr_in step_in below (joined_chain class.Or e es) (w ++ u) (joined_spells (deeper d) n class.Or (conjunction n d expr_in step_in) (conjunction_reads n d expr_in step_in below) e es w u g h)
+        (λ b c. joined_within (deeper d) n class.Or (conjunction n d expr_in step_in) (conjunction_reads n d expr_in step_in below) e es b (within b c) (terms_within b c)))
         (λ x z k. assigned_reads x ((w ++ u) ++ z) (omega (arith, k.0), k.1) (λ b c. c.1) (λ y q s. lift y (u ++ (z ++ q)) (subst (StepSpells y) (append_assoc (w ++ u) z q ∙ append_assoc w u (z ++ q)) s)))
 
   module _ (e : Tree) (w : List Token) (g : At 5 e w) where
-    and_behind : (es : Terms) (b : Bool) (v : List Token) → TermsOr tree.and es b v → Reads (λ b. (Unit {0} × WithinBy d b e) × WithinTerms b es) (After v (After w StepSpells)) (StepBy d) n (and_guarded n d expr_in step_in e (es, b))
-    and_behind es true v h = last (λ j. tree.guard tree.and e es j) (given (λ b c. tt) leap_reads) (λ j z l. guard_is tree.and e es j w v z g h l) (λ j b c k. (c.0.1, c.1, k))
-    and_behind es false v h = part (guarded_read (deeper d) n tree.or (λ s x. x) (conjunction n d expr_in step_in) (given (λ b c. tt) (conjunction_reads n d expr_in step_in below)))
-        (λ r u k. or_behind (joined_chain tree.and e es) (w ++ v) (joined_spells (deeper d) n tree.and (comparison n d expr_in step_in) (comparison_reads n d expr_in step_in below) e es w v g h)
-        (λ b c. joined_within (deeper d) n tree.and (comparison n d expr_in step_in) (comparison_reads n d expr_in step_in below) e es b c.0.0.1 c.0.1)
+    and_behind : (es : Terms) (b : Bool) (v : List Token) → TermsOr connective.And es b v → Reads (λ b. (Unit {0} × WithinBy d b e) × WithinTerms b es) (After v (After w StepSpells)) (StepBy d) n (and_guarded n d expr_in step_in e (es, b))
+    and_behind es true v h = last (λ j. tree.guard connective.And e es j) (given (λ b c. tt) leap_reads) (λ j z l. guard_is connective.And e es j w v z g h l) (λ j b c k. (c.0.1, c.1, k))
+    and_behind es false v h = part (guarded_read (deeper d) n connective.Or (conjunction n d expr_in step_in) (given (λ b c. tt) (conjunction_reads n d expr_in step_in below)))
+        (λ r u k. or_behind (joined_chain class.And e es) (w ++ v) (joined_spells (deeper d) n class.And (comparison n d expr_in step_in) (comparison_reads n d expr_in step_in below) e es w v g h)
+        (λ b c. joined_within (deeper d) n class.And (comparison n d expr_in step_in) (comparison_reads n d expr_in step_in below) e es b c.0.0.1 c.0.1)
         (λ x y s. subst (StepSpells x) (append_assoc w v y) s) r.0 u (λ b c. c.1) r.1 k)
 
   plain_reads : Reads Free StepSpells (StepBy d) n (plain_step n d expr_in step_in)
   plain_reads = part (comparison_reads n d expr_in step_in below)
-      (λ e w g. part (guarded_read (deeper d) n tree.and (λ s x. x) (comparison n d expr_in step_in) (given (λ b c. tt) (comparison_reads n d expr_in step_in below)))
+      (λ e w g. part (guarded_read (deeper d) n connective.And (comparison n d expr_in step_in) (given (λ b c. tt) (comparison_reads n d expr_in step_in below)))
       (λ r v h. and_behind e w g r.0 r.1 v h))
 
   -- ---- statements

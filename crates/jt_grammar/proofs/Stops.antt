@@ -1,9 +1,12 @@
 -- The end token stands in no tree.
 use Rattle.std.proofs.Common.{ℕ, ◌∷◌, ◌++◌, [], List, inl, inr, Bool, true, false, Option, Some, None, sym, subst}
-use Rattle.jt_syntax.specs.Tree.{Tree, Trees, Terms, Arms, Leap, Step, Steps, Form, TopTree, Class}
+use Rattle.jt_syntax.specs.Tree.{Tree, Trees, Terms, Arms, Leap, Step, Steps, Form, TopTree}
 use Rattle.jt_syntax.specs.Tree as tree
+use Rattle.jt_syntax.specs.View.{connective_class}
 use Rattle.jt_syntax.specs.declared.operator.AssignmentOperator.{AssignmentOperator}
 use Rattle.jt_syntax.specs.declared.operator.AssignmentOperator.TheVariants as assignment
+use Rattle.jt_syntax.specs.declared.operator.BinaryOperator.TheVariants as binary
+use Rattle.jt_syntax.specs.declared.operator.Class.{Class}
 use Rattle.jt_syntax.specs.declared.operator.UnaryOperator.{UnaryOperator}
 use Rattle.jt_syntax.specs.declared.operator.UnaryOperator.TheVariants as unary
 use Rattle.jt_syntax.specs.declared.script.Identifier.{Identifier}
@@ -14,7 +17,7 @@ use Rattle.jt_syntax.specs.declared.token.Sign.TheVariants as sign
 use Rattle.jt_syntax.specs.declared.token.Token.{Token}
 use Rattle.jt_syntax.specs.declared.token.TokenKind.{TokenKind}
 use Rattle.jt_syntax.specs.declared.token.TokenKind.TheVariants as kind
-use Rattle.jt_grammar.specs.Grammar.{unary_sign, assignment_sign, operator_class, connective, Rule, ◌▸◌, ◌∣◌, Nothing, Mark, MarkAt, Word, Letters, Quoted, Truth, IsSeparator, Gap, SomeGap, OfInt64, InOrAssign, pool_word, PoolWord, schedule_word, ScheduleWord, Held, Spells, Listed, Commas, Follow, ArmsSpell, LeapSpells, StepSpells, Body, Tail, MoreNames, Names, FormSpells, TopSpells, TopsTail, TopsBody, IsStop, NoStop}
+use Rattle.jt_grammar.specs.Grammar.{unary_sign, power_sign, assignment_sign, Rule, ◌▸◌, ◌∣◌, Nothing, Mark, MarkAt, Word, Letters, Quoted, Truth, IsSeparator, Gap, SomeGap, OfInt64, InOrAssign, pool_word, PoolWord, schedule_word, ScheduleWord, Held, Spells, Listed, Commas, Follow, ArmsSpell, LeapSpells, StepSpells, Body, Tail, MoreNames, Names, FormSpells, TopSpells, TopsTail, TopsBody, IsStop, NoStop}
 
 -- what a rule has is without the end token
 pub record Free (P : Rule) : Type 0 where
@@ -96,8 +99,8 @@ schedule (Some s) = parts (mark sign.Colon no) (letters (schedule_word s))
 -- ---- operators
 
 unary_free : (o : UnaryOperator) → Free (Mark (unary_sign o))
-unary_free unary.Minus = mark sign.Minus no
-unary_free unary.Plus = mark sign.Plus no
+unary_free unary.Minus = mark (unary_sign unary.Minus) no
+unary_free unary.Plus = mark (unary_sign unary.Plus) no
 unary_free unary.Not = mark sign.Not no
 unary_free unary.Complement = mark sign.Tilde no
 
@@ -108,26 +111,6 @@ assignment_free assignment.Minus = mark sign.MinusAssign no
 assignment_free assignment.Times = mark sign.StarAssign no
 assignment_free assignment.Divide = mark sign.DivideAssign no
 assignment_free assignment.Remainder = mark sign.PercentAssign no
-
-abbrev Known : Option Class → Type 0
-Known (Some c) = Unit {0}
-Known None = ⊥
-
-operator_free : (s : Sign) → Known (operator_class s) → IsStop (kind.Sign s) → ⊥
-operator_free sign.Stop h p = h
-operator_free _ h p = p
-
-abbrev Proper : Option Sign → Type 0
-Proper (Some s) = IsStop (kind.Sign s) → ⊥
-Proper None = Unit {0}
-
-connective_free : (c : Class) → Proper (connective c)
-connective_free tree.or = no
-connective_free tree.and = no
-connective_free tree.comparison = tt
-connective_free tree.sum = tt
-connective_free tree.product = tt
-connective_free tree.shift = tt
 
 -- ---- the forms
 
@@ -162,7 +145,7 @@ mutual
   tree_free (tree.notify e b) =
       parts (letters _) (parts open_mark (parts (held 1 e (tree_free e)) (parts (one_of (mark sign.Comma no) (mark sign.Semicolon no)) (parts (letters _) (parts (mark sign.Assign no) (parts (truth b) close_mark))))))
   tree_free (tree.read i) = parts (word i) (parts (mark sign.OpenSquare no) (mark sign.CloseSquare no))
-  tree_free (tree.power a b) = parts (held 11 a (tree_free a)) (parts (mark sign.Caret no) (held 9 b (tree_free b)))
+  tree_free (tree.power a b) = parts (held 11 a (tree_free a)) (parts (mark power_sign no) (held 9 b (tree_free b)))
   tree_free (tree.unary o e) = parts (unary_free o) (held 9 e (tree_free e))
   tree_free (tree.chain c e es) = record { free = λ w a. (parts (held _ e (tree_free e)) (follow_free c es)).free w a.1 }
   tree_free (tree.conditional c a b) = parts (held 3 c (tree_free c)) (parts (mark sign.Question no) (parts (held 2 a (tree_free a)) (parts (mark sign.Colon no) (held 2 b (tree_free b)))))
@@ -188,8 +171,7 @@ mutual
 
   follow_free : (c : Class) (es : Terms) → Free (Follow c es)
   follow_free c tree.no_terms = nothing
-  follow_free c (tree.term s e es) =
-      record { free = λ w a. (parts (mark s (operator_free s (subst Known (sym a.0) tt))) (parts (held _ e (tree_free e)) (follow_free c es))).free w a.1 }
+  follow_free c (tree.term o e es) = record { free = λ w a. (parts (mark (sign.Binary o) no) (parts (held _ e (tree_free e)) (follow_free c es))).free w a.1 }
 
   arms_free : (arms : Arms) → Free (ArmsSpell arms)
   arms_free tree.no_arms = nothing
@@ -206,8 +188,7 @@ mutual
   step_free (tree.assign i o e) = parts (word i) (parts (assignment_free o) (held 1 e (tree_free e)))
   step_free (tree.store i e) = parts (word i) (parts (mark sign.OpenSquare no) (parts (mark sign.CloseSquare no) (parts (mark sign.Assign no) (held 1 e (tree_free e)))))
   step_free (tree.jump j) = leap_free j
-  step_free (tree.guard c e es j) =
-      record { free = λ w a. (parts (held _ e (tree_free e)) (parts (follow_free c es) (parts (mark a.0 (subst Proper a.1 (connective_free c))) (leap_free j)))).free w a.2 }
+  step_free (tree.guard c e es j) = parts (held _ e (tree_free e)) (parts (follow_free (connective_class c) es) (parts (mark (sign.Binary (binary.Connective c)) no) (leap_free j)))
   step_free (tree.value e) = held 1 e (tree_free e)
 
   body_free : (xs : Steps) → Free (Body xs)

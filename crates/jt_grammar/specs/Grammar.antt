@@ -1,9 +1,14 @@
 -- The grammar, apart from how it is read: which lists of tokens spell a tree.
 use Rattle.std.specs.Prelude.{◌≡◌, ℕ, suc, ◌≤◌, ◌<◌, Bool, true, false, ◌⊎◌, List, [], ◌∷◌, ◌++◌, length, Option, Some, None, codes}
-use Rattle.jt_syntax.specs.Tree.{Tree, Trees, Terms, Arms, Leap, Step, Steps, Form, TopTree, Class}
+use Rattle.jt_syntax.specs.Tree.{Tree, Trees, Terms, Arms, Leap, Step, Steps, Form, TopTree}
 use Rattle.jt_syntax.specs.Tree as tree
+use Rattle.jt_syntax.specs.View.{connective_class, operator_class}
+use Rattle.jt_syntax.specs.declared.operator.ArithmeticOperator.TheVariants as arithmetic
 use Rattle.jt_syntax.specs.declared.operator.AssignmentOperator.{AssignmentOperator}
 use Rattle.jt_syntax.specs.declared.operator.AssignmentOperator.TheVariants as assignment
+use Rattle.jt_syntax.specs.declared.operator.BinaryOperator.TheVariants as binary
+use Rattle.jt_syntax.specs.declared.operator.Class.{Class}
+use Rattle.jt_syntax.specs.declared.operator.Class.TheVariants as class
 use Rattle.jt_syntax.specs.declared.operator.UnaryOperator.{UnaryOperator}
 use Rattle.jt_syntax.specs.declared.operator.UnaryOperator.TheVariants as unary
 use Rattle.jt_syntax.specs.declared.script.Identifier.{Identifier}
@@ -23,10 +28,14 @@ token k at = record { kind = k; at = at }
 -- ---- operators
 
 abbrev pub unary_sign : UnaryOperator → Sign
-unary_sign unary.Minus = sign.Minus
-unary_sign unary.Plus = sign.Plus
+unary_sign unary.Minus = sign.Binary (binary.Arithmetic arithmetic.Subtract)
+unary_sign unary.Plus = sign.Binary (binary.Arithmetic arithmetic.Add)
 unary_sign unary.Not = sign.Not
 unary_sign unary.Complement = sign.Tilde
+
+-- `^`
+abbrev pub power_sign : Sign
+power_sign = sign.Binary (binary.Arithmetic arithmetic.Power)
 
 abbrev pub assignment_sign : AssignmentOperator → Sign
 assignment_sign assignment.Plain = sign.Assign
@@ -36,44 +45,15 @@ assignment_sign assignment.Times = sign.StarAssign
 assignment_sign assignment.Divide = sign.DivideAssign
 assignment_sign assignment.Remainder = sign.PercentAssign
 
--- the class of a binary operator
-abbrev pub operator_class : Sign → Option Class
-operator_class sign.OrElse = Some tree.or
-operator_class sign.AndAlso = Some tree.and
-operator_class sign.Equal = Some tree.comparison
-operator_class sign.NotEqual = Some tree.comparison
-operator_class sign.Less = Some tree.comparison
-operator_class sign.LessEqual = Some tree.comparison
-operator_class sign.Greater = Some tree.comparison
-operator_class sign.GreaterEqual = Some tree.comparison
-operator_class sign.Plus = Some tree.sum
-operator_class sign.Minus = Some tree.sum
-operator_class sign.Or = Some tree.sum
-operator_class sign.Xor = Some tree.sum
-operator_class sign.Star = Some tree.product
-operator_class sign.Divide = Some tree.product
-operator_class sign.Percent = Some tree.product
-operator_class sign.And = Some tree.product
-operator_class sign.ShiftLeft = Some tree.shift
-operator_class sign.ShiftRight = Some tree.shift
-operator_class sign.ShiftRightZero = Some tree.shift
-operator_class _ = None
-
--- the sign of a connective's class
-abbrev pub connective : Class → Option Sign
-connective tree.or = Some sign.OrElse
-connective tree.and = Some sign.AndAlso
-connective _ = None
-
 -- ---- how tightly a form holds together; an operand must hold more tightly than its operator
 
 abbrev pub class_level : Class → ℕ
-class_level tree.or = 3
-class_level tree.and = 4
-class_level tree.comparison = 5
-class_level tree.sum = 6
-class_level tree.product = 7
-class_level tree.shift = 8
+class_level class.Or = 3
+class_level class.And = 4
+class_level class.Comparison = 5
+class_level class.Sum = 6
+class_level class.Product = 7
+class_level class.Shift = 8
 
 abbrev pub level : Tree → ℕ
 level (tree.text t) = 0
@@ -194,7 +174,7 @@ ScheduleWord (Some s) = Mark sign.Colon ▸ Letters (schedule_word s)
 
 abbrev pub IsSome : Terms → Type 0
 IsSome tree.no_terms = ⊥
-IsSome (tree.term s e es) = Unit {0}
+IsSome (tree.term o e es) = Unit {0}
 
 -- what the tree spells, where it holds that tightly
 abbrev pub Held : ℕ → Tree → Rule → Rule
@@ -222,7 +202,7 @@ abbrev mutual
   Spells (tree.random_in a b) = Mark sign.Rand ▸ Mark sign.Open ▸ Held 6 a (Spells a) ▸ Mark sign.Colon ▸ Held 6 b (Spells b) ▸ Mark sign.Close
   Spells (tree.notify e b) = Letters (codes "notify") ▸ Mark sign.Open ▸ Held 1 e (Spells e) ▸ (Mark sign.Comma ∣ Mark sign.Semicolon) ▸ Letters (codes "all") ▸ Mark sign.Assign ▸ Truth b ▸ Mark sign.Close
   Spells (tree.read i) = Word i ▸ Mark sign.OpenSquare ▸ Mark sign.CloseSquare
-  Spells (tree.power a b) = Held 11 a (Spells a) ▸ Mark sign.Caret ▸ Held 9 b (Spells b)
+  Spells (tree.power a b) = Held 11 a (Spells a) ▸ Mark power_sign ▸ Held 9 b (Spells b)
   Spells (tree.unary o e) = Mark (unary_sign o) ▸ Held 9 e (Spells e)
   Spells (tree.chain c e es) = λ w. IsSome es × (Held (suc (class_level c)) e (Spells e) ▸ Follow c es) w
   Spells (tree.conditional c a b) = Held 3 c (Spells c) ▸ Mark sign.Question ▸ Held 2 a (Spells a) ▸ Mark sign.Colon ▸ Held 2 b (Spells b)
@@ -248,7 +228,7 @@ abbrev mutual
   -- an operator of the class and an operand, any number of times
   pub Follow : Class → Terms → Rule
   Follow c tree.no_terms = Nothing
-  Follow c (tree.term s e es) = λ w. (operator_class s ≡ Some c) × (Mark s ▸ Held (suc (class_level c)) e (Spells e) ▸ Follow c es) w
+  Follow c (tree.term o e es) = λ w. (operator_class o ≡ Some c) × (Mark (sign.Binary o) ▸ Held (suc (class_level c)) e (Spells e) ▸ Follow c es) w
 
   -- the arms of an `if` behind its first one
   pub ArmsSpell : Arms → Rule
@@ -266,7 +246,7 @@ abbrev mutual
   StepSpells (tree.assign i o e) = Word i ▸ Mark (assignment_sign o) ▸ Held 1 e (Spells e)
   StepSpells (tree.store i e) = Word i ▸ Mark sign.OpenSquare ▸ Mark sign.CloseSquare ▸ Mark sign.Assign ▸ Held 1 e (Spells e)
   StepSpells (tree.jump j) = LeapSpells j
-  StepSpells (tree.guard c e es j) = λ w. (s : Sign) × (connective c ≡ Some s) × (Held (suc (class_level c)) e (Spells e) ▸ Follow c es ▸ Mark s ▸ LeapSpells j) w
+  StepSpells (tree.guard k e es j) = Held (suc (class_level (connective_class k))) e (Spells e) ▸ Follow (connective_class k) es ▸ Mark (sign.Binary (binary.Connective k)) ▸ LeapSpells j
   StepSpells (tree.value e) = Held 1 e (Spells e)
 
   -- statements with separators between, and perhaps around them

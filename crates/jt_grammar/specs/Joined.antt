@@ -1,11 +1,17 @@
 -- Joined lines: the newlines that are dropped before the grammar is asked, and what it means that tokens begin a script.
-use Rattle.std.specs.Prelude.{◌≡◌, ℕ, suc, ◌+◌, Bool, true, false, ◌&&◌, ◌||◌, if◌then◌else◌, List, [], ◌∷◌, ◌++◌, length, ◌-◌, take, slice_get, Option, Some, None, unwrap_or}
+use Rattle.std.specs.Prelude.{◌≡◌, ℕ, suc, ◌+◌, Bool, true, false, ◌&&◌, ◌||◌, if◌then◌else◌, List, [], ◌∷◌, ◌++◌, length, ◌-◌, take, slice_get, Option, Some, None}
+use denote.Enum.Bare.{sameb}
 use Rattle.jt_syntax.specs.Tree.{TopTree}
+use Rattle.jt_syntax.specs.declared.operator.ArithmeticOperator.TheVariants as arithmetic
+use Rattle.jt_syntax.specs.declared.operator.BinaryOperator.TheVariants as binary
 use Rattle.jt_syntax.specs.declared.token.Sign.{Sign}
 use Rattle.jt_syntax.specs.declared.token.Sign.TheVariants as sign
 use Rattle.jt_syntax.specs.declared.token.Token.{Token}
 use Rattle.jt_syntax.specs.declared.token.TokenKind.{TokenKind}
 use Rattle.jt_syntax.specs.declared.token.TokenKind.TheVariants as kind
+use Rattle.jt_grammar.specs.contracts.Opener.{the_type}
+use Rattle.jt_grammar.specs.declared.Opener.{Opener}
+use Rattle.jt_grammar.specs.declared.Opener.TheVariants as opener
 use Rattle.jt_grammar.specs.Grammar.{ScriptSpells}
 use Rattle.jt_grammar.specs.Nesting.{TopsWithin}
 
@@ -18,26 +24,7 @@ is_newline (kind.Text _) = false
 
 -- the signs behind which a line goes on
 abbrev pub goes_on : Sign → Bool
-goes_on sign.OrElse = true
-goes_on sign.AndAlso = true
-goes_on sign.Equal = true
-goes_on sign.NotEqual = true
-goes_on sign.Less = true
-goes_on sign.LessEqual = true
-goes_on sign.Greater = true
-goes_on sign.GreaterEqual = true
-goes_on sign.Plus = true
-goes_on sign.Minus = true
-goes_on sign.Or = true
-goes_on sign.Xor = true
-goes_on sign.Star = true
-goes_on sign.Divide = true
-goes_on sign.Percent = true
-goes_on sign.And = true
-goes_on sign.ShiftLeft = true
-goes_on sign.ShiftRight = true
-goes_on sign.ShiftRightZero = true
-goes_on sign.Caret = true
+goes_on (sign.Binary o) = true
 goes_on sign.Assign = true
 goes_on sign.PlusAssign = true
 goes_on sign.MinusAssign = true
@@ -55,48 +42,54 @@ continues (kind.Number _) = false
 continues (kind.Name _) = false
 continues (kind.Text _) = false
 
--- what is open, the innermost last: whether it is a bracket
-abbrev pub innermost : List Bool → Option Bool
+-- what is open, the innermost last
+abbrev pub innermost : List Opener → Option Opener
 innermost open_now = slice_get open_now (length open_now - 1)
 
-abbrev pub closed_by : Bool → Option Bool → List Bool → List Bool
-closed_by b None open_now = open_now
-closed_by true (Some true) open_now = take (length open_now - 1) open_now
-closed_by true (Some false) open_now = open_now
-closed_by false (Some true) open_now = open_now
-closed_by false (Some false) open_now = take (length open_now - 1) open_now
+abbrev pub same_opener : Opener → Opener → Bool
+same_opener = sameb the_type
 
--- a closing token that doesn't fit closes nothing
-abbrev pub closed : Bool → List Bool → List Bool
-closed b open_now = closed_by b (innermost open_now) open_now
+abbrev pub closed_by : Opener → Option Opener → List Opener → List Opener
+closed_by o None open_now = open_now
+closed_by o (Some i) open_now = if same_opener i o then take (length open_now - 1) open_now else open_now
 
-abbrev pub pushed_by : List Bool → Sign → List Bool
-pushed_by open_now sign.Open = open_now ++ true ∷ []
-pushed_by open_now sign.OpenSquare = open_now ++ true ∷ []
-pushed_by open_now sign.OpenCurly = open_now ++ true ∷ []
-pushed_by open_now sign.Begin = open_now ++ false ∷ []
-pushed_by open_now sign.Function = open_now ++ false ∷ []
-pushed_by open_now sign.If = open_now ++ false ∷ []
-pushed_by open_now sign.While = open_now ++ false ∷ []
-pushed_by open_now sign.For = open_now ++ false ∷ []
-pushed_by open_now sign.Close = closed true open_now
-pushed_by open_now sign.CloseSquare = closed true open_now
-pushed_by open_now sign.CloseCurly = closed true open_now
-pushed_by open_now sign.End = closed false open_now
+-- what is open behind a closing token of this kind, which closes nothing where the innermost is of another kind
+abbrev pub closed : Opener → List Opener → List Opener
+closed o open_now = closed_by o (innermost open_now) open_now
+
+abbrev pub pushed_by : List Opener → Sign → List Opener
+pushed_by open_now sign.Open = open_now ++ opener.Parenthesis ∷ []
+pushed_by open_now sign.OpenSquare = open_now ++ opener.Square ∷ []
+pushed_by open_now sign.OpenCurly = open_now ++ opener.Curly ∷ []
+pushed_by open_now sign.Begin = open_now ++ opener.Block ∷ []
+pushed_by open_now sign.Function = open_now ++ opener.Block ∷ []
+pushed_by open_now sign.If = open_now ++ opener.Block ∷ []
+pushed_by open_now sign.While = open_now ++ opener.Block ∷ []
+pushed_by open_now sign.For = open_now ++ opener.Block ∷ []
+pushed_by open_now sign.Close = closed opener.Parenthesis open_now
+pushed_by open_now sign.CloseSquare = closed opener.Square open_now
+pushed_by open_now sign.CloseCurly = closed opener.Curly open_now
+pushed_by open_now sign.End = closed opener.Block open_now
 pushed_by open_now _ = open_now
 
-abbrev pub pushed : List Bool → TokenKind → List Bool
+abbrev pub pushed : List Opener → TokenKind → List Opener
 pushed open_now (kind.Sign s) = pushed_by open_now s
 pushed open_now (kind.Number _) = open_now
 pushed open_now (kind.Name _) = open_now
 pushed open_now (kind.Text _) = open_now
 
-abbrev pub in_bracket : List Bool → Bool
-in_bracket open_now = unwrap_or (innermost open_now) false
+abbrev pub is_bracket : Option Opener → Bool
+is_bracket None = false
+is_bracket (Some opener.Block) = false
+is_bracket (Some _) = true
+
+-- whether the innermost is a bracket
+abbrev pub in_bracket : List Opener → Bool
+in_bracket open_now = is_bracket (innermost open_now)
 
 -- what is open, and whether the line goes on behind the last token that was kept
 abbrev pub State : Type 0
-State = List Bool × Bool
+State = List Opener × Bool
 
 abbrev pub drops : State → TokenKind → Bool
 drops s k = is_newline k && (in_bracket s.0 || s.1)
@@ -138,9 +131,9 @@ opens sign.Spawn = true
 opens sign.Async = true
 opens sign.Sync = true
 opens sign.Question = true
-opens sign.Caret = true
-opens sign.Minus = true
-opens sign.Plus = true
+opens (sign.Binary (binary.Arithmetic arithmetic.Power)) = true
+opens (sign.Binary (binary.Arithmetic arithmetic.Subtract)) = true
+opens (sign.Binary (binary.Arithmetic arithmetic.Add)) = true
 opens sign.Not = true
 opens sign.Tilde = true
 opens _ = false

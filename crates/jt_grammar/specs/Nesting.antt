@@ -53,7 +53,7 @@ abbrev mutual
 
   pub TermsWithin : ℕ → Terms → Type 0
   TermsWithin d tree.no_terms = Unit {0}
-  TermsWithin d (tree.term s e es) = Within d e × TermsWithin d es
+  TermsWithin d (tree.term o e es) = Within d e × TermsWithin d es
 
   pub ArmsWithin : ℕ → Arms → Type 0
   ArmsWithin d tree.no_arms = Unit {0}
@@ -70,7 +70,7 @@ abbrev mutual
   StepWithin d (tree.assign i o e) = Within d e
   StepWithin d (tree.store i e) = Opens d × Within d e
   StepWithin d (tree.jump j) = LeapWithin d j
-  StepWithin d (tree.guard c e es j) = Within d e × TermsWithin d es × LeapWithin d j
+  StepWithin d (tree.guard k e es j) = Within d e × TermsWithin d es × LeapWithin d j
   StepWithin d (tree.value e) = Within d e
 
   pub StepsWithin : ℕ → Steps → Type 0

@@ -1,8 +1,9 @@
 -- One spelling of each tree: the kinds of its tokens, with a semicolon behind each statement and no newline, since a
 -- newline may be dropped; and trees without their places.
 use Rattle.std.specs.Prelude.{ℕ, Bool, true, false, List, [], ◌∷◌, ◌++◌, map, Option, Some, None, codes}
-use Rattle.jt_syntax.specs.Tree.{Tree, Trees, Terms, Arms, Leap, Step, Steps, Form, TopTree, Class}
+use Rattle.jt_syntax.specs.Tree.{Tree, Trees, Terms, Arms, Leap, Step, Steps, Form, TopTree}
 use Rattle.jt_syntax.specs.Tree as tree
+use Rattle.jt_syntax.specs.declared.operator.BinaryOperator.TheVariants as binary
 use Rattle.jt_syntax.specs.declared.script.Identifier.{Identifier}
 use Rattle.jt_syntax.specs.declared.script.Pool.{Pool}
 use Rattle.jt_syntax.specs.declared.script.Schedule.{Schedule}
@@ -10,7 +11,7 @@ use Rattle.jt_syntax.specs.declared.token.Sign.{Sign}
 use Rattle.jt_syntax.specs.declared.token.Sign.TheVariants as sign
 use Rattle.jt_syntax.specs.declared.token.TokenKind.{TokenKind}
 use Rattle.jt_syntax.specs.declared.token.TokenKind.TheVariants as kind
-use Rattle.jt_grammar.specs.Grammar.{unary_sign, assignment_sign, pool_word, schedule_word}
+use Rattle.jt_grammar.specs.Grammar.{unary_sign, power_sign, assignment_sign, pool_word, schedule_word}
 
 -- ---- the kinds of the tokens that are printed for a tree
 
@@ -43,12 +44,6 @@ abbrev pub schedule_kinds : Option Schedule → List TokenKind
 schedule_kinds None = []
 schedule_kinds (Some s) = mark sign.Colon ⁀ word (schedule_word s)
 
--- a connective's sign, of its class
-abbrev pub connective_kinds : Class → List TokenKind
-connective_kinds tree.or = mark sign.OrElse
-connective_kinds tree.and = mark sign.AndAlso
-connective_kinds _ = []
-
 abbrev mutual
   pub tree_kinds : Tree → List TokenKind
   tree_kinds (tree.text t) = quoted t
@@ -69,7 +64,7 @@ abbrev mutual
   tree_kinds (tree.random_in a b) = mark sign.Rand ⁀ mark sign.Open ⁀ tree_kinds a ⁀ mark sign.Colon ⁀ tree_kinds b ⁀ mark sign.Close
   tree_kinds (tree.notify e b) = word (codes "notify") ⁀ mark sign.Open ⁀ tree_kinds e ⁀ mark sign.Comma ⁀ word (codes "all") ⁀ mark sign.Assign ⁀ truth_kinds b ⁀ mark sign.Close
   tree_kinds (tree.read i) = word i.name ⁀ mark sign.OpenSquare ⁀ mark sign.CloseSquare
-  tree_kinds (tree.power a b) = tree_kinds a ⁀ mark sign.Caret ⁀ tree_kinds b
+  tree_kinds (tree.power a b) = tree_kinds a ⁀ mark power_sign ⁀ tree_kinds b
   tree_kinds (tree.unary o e) = mark (unary_sign o) ⁀ tree_kinds e
   tree_kinds (tree.chain c e es) = tree_kinds e ⁀ term_kinds es
   tree_kinds (tree.conditional c a b) = tree_kinds c ⁀ mark sign.Question ⁀ tree_kinds a ⁀ mark sign.Colon ⁀ tree_kinds b
@@ -95,7 +90,7 @@ abbrev mutual
   -- operands, each behind its operator
   pub term_kinds : Terms → List TokenKind
   term_kinds tree.no_terms = []
-  term_kinds (tree.term s e es) = mark s ⁀ tree_kinds e ⁀ term_kinds es
+  term_kinds (tree.term o e es) = mark (sign.Binary o) ⁀ tree_kinds e ⁀ term_kinds es
 
   pub arms_kinds : Arms → List TokenKind
   arms_kinds tree.no_arms = []
@@ -112,7 +107,7 @@ abbrev mutual
   step_kinds (tree.assign i o e) = word i.name ⁀ mark (assignment_sign o) ⁀ tree_kinds e
   step_kinds (tree.store i e) = word i.name ⁀ mark sign.OpenSquare ⁀ mark sign.CloseSquare ⁀ mark sign.Assign ⁀ tree_kinds e
   step_kinds (tree.jump j) = leap_kinds j
-  step_kinds (tree.guard c e es j) = tree_kinds e ⁀ term_kinds es ⁀ connective_kinds c ⁀ leap_kinds j
+  step_kinds (tree.guard k e es j) = tree_kinds e ⁀ term_kinds es ⁀ mark (sign.Binary (binary.Connective k)) ⁀ leap_kinds j
   step_kinds (tree.value e) = tree_kinds e
 
   -- statements, each with a semicolon behind it
@@ -186,7 +181,7 @@ abbrev mutual
 
   pub bare_terms : Terms → Terms
   bare_terms tree.no_terms = tree.no_terms
-  bare_terms (tree.term s e es) = tree.term s (bare e) (bare_terms es)
+  bare_terms (tree.term o e es) = tree.term o (bare e) (bare_terms es)
 
   pub bare_arms : Arms → Arms
   bare_arms tree.no_arms = tree.no_arms
@@ -203,7 +198,7 @@ abbrev mutual
   bare_step (tree.assign i o e) = tree.assign (bare_identifier i) o (bare e)
   bare_step (tree.store i e) = tree.store (bare_identifier i) (bare e)
   bare_step (tree.jump j) = tree.jump (bare_leap j)
-  bare_step (tree.guard c e es j) = tree.guard c (bare e) (bare_terms es) (bare_leap j)
+  bare_step (tree.guard k e es j) = tree.guard k (bare e) (bare_terms es) (bare_leap j)
   bare_step (tree.value e) = tree.value (bare e)
 
   pub bare_steps : Steps → Steps

@@ -2,12 +2,19 @@
 use Rattle.std.specs.Prelude.{ℕ, zero, suc, ◌-◌, nat_lt, Bool, true, false, ◌&&◌, if◌then◌else◌, List, [], ◌∷◌, ◌++◌, length, Result, Ok, Err, Option, Some, None, option_map, codes}
 use Rattle.std.specs.Str.{bytes_eq}
 use denote.Enum.Bare.{sameb}
-use Rattle.jt_syntax.specs.Tree.{Tree, Trees, Terms, Arms, Leap, Step, Steps, Form, TopTree, Class}
+use Rattle.jt_syntax.specs.Tree.{Tree, Trees, Terms, Arms, Leap, Step, Steps, Form, TopTree}
 use Rattle.jt_syntax.specs.Tree as tree
-use Rattle.jt_syntax.specs.View.{arms_of}
-use Rattle.jt_syntax.specs.contracts.token.Sign.{the_type}
+use Rattle.jt_syntax.specs.View.{arms_of, operator_class, terms_of}
+use Rattle.jt_syntax.specs.contracts.operator.Class.{the_type}
+use Rattle.jt_syntax.specs.contracts.token.SignPartialEq.TheImpl as sign_eq
+use Rattle.jt_syntax.specs.declared.operator.ArithmeticOperator.TheVariants as arithmetic
 use Rattle.jt_syntax.specs.declared.operator.AssignmentOperator.{AssignmentOperator}
 use Rattle.jt_syntax.specs.declared.operator.AssignmentOperator.TheVariants as assignment
+use Rattle.jt_syntax.specs.declared.operator.BinaryOperator.{BinaryOperator}
+use Rattle.jt_syntax.specs.declared.operator.BinaryOperator.TheVariants as binary
+use Rattle.jt_syntax.specs.declared.operator.Class.{Class}
+use Rattle.jt_syntax.specs.declared.operator.Class.TheVariants as class
+use Rattle.jt_syntax.specs.declared.operator.Connective.TheVariants as connective
 use Rattle.jt_syntax.specs.declared.operator.UnaryOperator.{UnaryOperator}
 use Rattle.jt_syntax.specs.declared.operator.UnaryOperator.TheVariants as unary_operator
 use Rattle.jt_syntax.specs.declared.script.Identifier.{Identifier}
@@ -24,7 +31,7 @@ use Rattle.jt_grammar.specs.declared.Level.{Level}
 use Rattle.jt_grammar.specs.declared.Level.TheVariants as levels
 use Rattle.jt_grammar.specs.declared.Target.{Target}
 use Rattle.jt_grammar.specs.declared.Target.TheVariants as targets
-use Rattle.jt_grammar.specs.Grammar.{operator_class, level}
+use Rattle.jt_grammar.specs.Grammar.{unary_sign, power_sign, level}
 
 -- Why a list is refused, by how many tokens are left: the next token fits no rule, it is an opener too many, or the turns are used up.
 pub data Fault : Type 0 where
@@ -68,7 +75,7 @@ place_of [] = 0
 place_of (t ∷ ts) = t.at
 
 unfoldable pub same_sign : Sign → Sign → Bool
-same_sign = sameb the_type
+same_sign = (sign_eq.ghosts).eq
 
 abbrev pub is : Sign → TokenKind → Bool
 is s (kind.Sign r) = same_sign r s
@@ -136,20 +143,16 @@ opening depth s = on s (enter depth >> skip) refuse
 
 -- ---- chains of one class of operators
 
-abbrev pub sign_of : TokenKind → Sign
-sign_of (kind.Sign s) = s
-sign_of (kind.Number _) = sign.Stop
-sign_of (kind.Name _) = sign.Stop
-sign_of (kind.Text _) = sign.Stop
+-- the operator that a token is; `^`, which makes no chain, where it is none
+abbrev pub operator_of : TokenKind → BinaryOperator
+operator_of (kind.Sign (sign.Binary o)) = o
+operator_of (kind.Sign _) = binary.Arithmetic arithmetic.Power
+operator_of (kind.Number _) = binary.Arithmetic arithmetic.Power
+operator_of (kind.Name _) = binary.Arithmetic arithmetic.Power
+operator_of (kind.Text _) = binary.Arithmetic arithmetic.Power
 
 unfoldable pub same_class : Class → Class → Bool
-same_class tree.or tree.or = true
-same_class tree.and tree.and = true
-same_class tree.comparison tree.comparison = true
-same_class tree.sum tree.sum = true
-same_class tree.product tree.product = true
-same_class tree.shift tree.shift = true
-same_class _ _ = false
+same_class = sameb the_type
 
 abbrev pub is_of : Class → Option Class → Bool
 is_of c None = false
@@ -157,28 +160,25 @@ is_of c (Some d) = same_class d c
 
 -- whether the token is an operator of the class
 abbrev pub operates : Class → TokenKind → Bool
-operates c (kind.Sign s) = is_of c (operator_class s)
+operates c (kind.Sign (sign.Binary o)) = is_of c (operator_class o)
+operates c (kind.Sign _) = false
 operates c (kind.Number _) = false
 operates c (kind.Name _) = false
 operates c (kind.Text _) = false
 
 abbrev pub joined_chain : Class → Tree → Terms → Tree
 joined_chain c e tree.no_terms = e
-joined_chain c e (tree.term s x xs) = tree.chain c e (tree.term s x xs)
+joined_chain c e (tree.term o x xs) = tree.chain c e (tree.term o x xs)
 
 -- operators of the class with their operands, as long as they come
 unfoldable pub terms : Class → Parser Tree → ℕ → Parser Terms
 terms c item zero = λ ts. Err spent
-terms c item (suc n) = λ ts. if operates c (kind_of ts) then (do t ← skip; e ← item; es ← terms c item n; pure (tree.term (sign_of t.kind) e es)) ts else Ok (tree.no_terms, ts)
-
-abbrev pub terms_from_list : List (Sign × Tree) → Terms
-terms_from_list [] = tree.no_terms
-terms_from_list (t ∷ ts) = tree.term t.0 t.1 (terms_from_list ts)
+terms c item (suc n) = λ ts. if operates c (kind_of ts) then (do t ← skip; e ← item; es ← terms c item n; pure (tree.term (operator_of t.kind) e es)) ts else Ok (tree.no_terms, ts)
 
 -- the same, behind what was found before
-unfoldable pub terms_from : Class → Parser Tree → ℕ → List (Sign × Tree) → Parser Terms
+unfoldable pub terms_from : Class → Parser Tree → ℕ → List (BinaryOperator × Tree) → Parser Terms
 terms_from c item zero found = λ ts. Err spent
-terms_from c item (suc n) found = λ ts. if operates c (kind_of ts) then (do t ← skip; e ← item; terms_from c item n (found ++ (sign_of t.kind, e) ∷ [])) ts else Ok (terms_from_list found, ts)
+terms_from c item (suc n) found = λ ts. if operates c (kind_of ts) then (do t ← skip; e ← item; terms_from c item n (found ++ (operator_of t.kind, e) ∷ [])) ts else Ok (terms_of found, ts)
 
 abbrev pub chained : ℕ → Class → Parser Tree → Parser Tree
 chained turns c item = do
@@ -199,14 +199,14 @@ is_jump (kind.Text _) = false
 unfoldable pub guarded_terms : Class → Parser Tree → ℕ → Parser (Terms × Bool)
 guarded_terms c item zero = λ ts. Err spent
 guarded_terms c item (suc n) = λ ts. if operates c (kind_of ts)
-    then (do t ← skip; by_kind (λ k ts. if is_jump k then Ok ((tree.no_terms, true), ts) else (do e ← item; r ← guarded_terms c item n; pure (tree.term (sign_of t.kind) e r.0, r.1)) ts)) ts
+    then (do t ← skip; by_kind (λ k ts. if is_jump k then Ok ((tree.no_terms, true), ts) else (do e ← item; r ← guarded_terms c item n; pure (tree.term (operator_of t.kind) e r.0, r.1)) ts)) ts
     else Ok ((tree.no_terms, false), ts)
 
-unfoldable pub guarded_from : Class → Parser Tree → ℕ → List (Sign × Tree) → Parser (Terms × Bool)
+unfoldable pub guarded_from : Class → Parser Tree → ℕ → List (BinaryOperator × Tree) → Parser (Terms × Bool)
 guarded_from c item zero found = λ ts. Err spent
 guarded_from c item (suc n) found = λ ts. if operates c (kind_of ts)
-    then (do t ← skip; by_kind (λ k ts. if is_jump k then Ok ((terms_from_list found, true), ts) else (do e ← item; guarded_from c item n (found ++ (sign_of t.kind, e) ∷ [])) ts)) ts
-    else Ok ((terms_from_list found, false), ts)
+    then (do t ← skip; by_kind (λ k ts. if is_jump k then Ok ((terms_of found, true), ts) else (do e ← item; guarded_from c item n (found ++ (operator_of t.kind, e) ∷ [])) ts)) ts
+    else Ok ((terms_of found, false), ts)
 
 -- ---- lists with commas
 
@@ -304,7 +304,7 @@ step_target (tree.value e) = target e
 step_target (tree.assign i o e) = targets.Other
 step_target (tree.store i e) = targets.Other
 step_target (tree.jump j) = targets.Other
-step_target (tree.guard c e es j) = targets.Other
+step_target (tree.guard k e es j) = targets.Other
 
 abbrev pub assignment_of : TokenKind → Option AssignmentOperator
 assignment_of (kind.Sign sign.Assign) = Some assignment.Plain
@@ -482,14 +482,14 @@ module _ (turns depth : ℕ) (expr_in : Level → Parser Tree) (step_in : Parser
   primary = by_kind primary_by
 
   abbrev pub raised : Tree → Parser Tree
-  raised a = on sign.Caret (do enter depth; skip; b ← expr_in levels.Operand; pure (tree.power a b)) (pure a)
+  raised a = on power_sign (do enter depth; skip; b ← expr_in levels.Operand; pure (tree.power a b)) (pure a)
 
   unfoldable pub power : Parser Tree
   power = primary >>= raised
 
   abbrev pub operand_by : TokenKind → Parser Tree
-  operand_by (kind.Sign sign.Minus) = negated sign.Minus unary_operator.Minus
-  operand_by (kind.Sign sign.Plus) = negated sign.Plus unary_operator.Plus
+  operand_by (kind.Sign (sign.Binary (binary.Arithmetic arithmetic.Subtract))) = negated (unary_sign unary_operator.Minus) unary_operator.Minus
+  operand_by (kind.Sign (sign.Binary (binary.Arithmetic arithmetic.Add))) = negated (unary_sign unary_operator.Plus) unary_operator.Plus
   operand_by (kind.Sign sign.Not) = negated sign.Not unary_operator.Not
   operand_by (kind.Sign sign.Tilde) = negated sign.Tilde unary_operator.Complement
   operand_by (kind.Sign _) = power
@@ -501,22 +501,22 @@ module _ (turns depth : ℕ) (expr_in : Level → Parser Tree) (step_in : Parser
   operand = by_kind operand_by
 
   unfoldable pub shift : Parser Tree
-  shift = chained turns tree.shift operand
+  shift = chained turns class.Shift operand
 
   unfoldable pub product : Parser Tree
-  product = chained turns tree.product shift
+  product = chained turns class.Product shift
 
   unfoldable pub sum : Parser Tree
-  sum = chained turns tree.sum product
+  sum = chained turns class.Sum product
 
   unfoldable pub comparison : Parser Tree
-  comparison = chained turns tree.comparison sum
+  comparison = chained turns class.Comparison sum
 
   unfoldable pub conjunction : Parser Tree
-  conjunction = chained turns tree.and comparison
+  conjunction = chained turns class.And comparison
 
   unfoldable pub disjunction : Parser Tree
-  disjunction = chained turns tree.or conjunction
+  disjunction = chained turns class.Or conjunction
 
   -- behind what may be the condition of a `?`
   abbrev pub chosen : Tree → Parser Tree
@@ -727,15 +727,15 @@ module _ (turns depth : ℕ) (expr_in : Level → Parser Tree) (step_in : Parser
 
   -- behind a chain of `||`, and perhaps the operator before a jump
   abbrev pub or_guarded : Tree → Terms × Bool → Parser Step
-  or_guarded e r = if r.1 then (do j ← leap; pure (tree.guard tree.or e r.0 j)) else (chosen (joined_chain tree.or e r.0) >>= assigned)
+  or_guarded e r = if r.1 then (do j ← leap; pure (tree.guard connective.Or e r.0 j)) else (chosen (joined_chain class.Or e r.0) >>= assigned)
 
   abbrev pub and_guarded : Tree → Terms × Bool → Parser Step
-  and_guarded e r = if r.1 then (do j ← leap; pure (tree.guard tree.and e r.0 j)) else (guarded_terms tree.or conjunction turns >>= or_guarded (joined_chain tree.and e r.0))
+  and_guarded e r = if r.1 then (do j ← leap; pure (tree.guard connective.And e r.0 j)) else (guarded_terms class.Or conjunction turns >>= or_guarded (joined_chain class.And e r.0))
 
   abbrev pub plain_step : Parser Step
   plain_step = do
     e ← comparison
-    r ← guarded_terms tree.and comparison turns
+    r ← guarded_terms class.And comparison turns
     and_guarded e r
 
   abbrev pub step_by : TokenKind → Parser Step

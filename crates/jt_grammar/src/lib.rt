@@ -21,7 +21,21 @@ pub enum Level {
     Whole,
 }
 
-/// What an expression is on the left of an assignment operator.
+/// What opens a bracket or a block, by what closes it.
+#[derive(Clone, Copy, Debug, PartialEq, Eq)]
+pub enum Opener {
+    /// `(`, which `)` closes.
+    Parenthesis,
+    /// `[`, which `]` closes.
+    Square,
+    /// `{`, which `}` closes.
+    Curly,
+    /// The first word of a block, as `while`, which `end` closes.
+    Block,
+}
+
+/// What an expression is on the left of an assignment operator. It stands here, and not beside the
+/// code that makes it, because the definition of what is read names it.
 #[derive(Drop)]
 pub enum Target {
     Variable(Identifier),

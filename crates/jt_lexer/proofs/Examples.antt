@@ -1,6 +1,9 @@
 -- Worked examples of what stands at a text's front, and of whole texts.
 use Rattle.std.proofs.Common.{◌≡◌, ℕ, [], ◌∷◌, ◌++◌, Some, Ok, Err, None, true, false, codes, refl, arith}
 use Rattle.std.specs.Fmt.{digits}
+use Rattle.jt_syntax.specs.declared.operator.ArithmeticOperator.TheVariants as arithmetic
+use Rattle.jt_syntax.specs.declared.operator.BinaryOperator.TheVariants as binary
+use Rattle.jt_syntax.specs.declared.operator.ComparisonOperator.TheVariants as comparison
 use Rattle.jt_syntax.specs.declared.token.Sign.{Sign}
 use Rattle.jt_syntax.specs.declared.token.Sign.TheVariants as sign
 use Rattle.jt_syntax.specs.declared.token.Token.{Token}
@@ -85,7 +88,7 @@ too_large = refl
 
 -- ---- words
 
-mark_before_equals : lex (codes "a!=b!") ≡ Ok (token (kind.Name (codes "a")) 0 ∷ at sign.NotEqual 1 ∷ token (kind.Name (codes "b!")) 3 ∷ at sign.Stop 5 ∷ [])
+mark_before_equals : lex (codes "a!=b!") ≡ Ok (token (kind.Name (codes "a")) 0 ∷ at (sign.Binary (binary.Comparison comparison.NotEqual)) 1 ∷ token (kind.Name (codes "b!")) 3 ∷ at sign.Stop 5 ∷ [])
 unfolding lex piece word whole_len is_base_threads prefix_len is_base_threads_word is_threads_word is_base_word reserved sign_at
 mark_before_equals = refl
 
@@ -152,7 +155,7 @@ unclosed_string = refl
 
 -- ---- signs
 
-longest : piece (codes ">>>=") ≡ Ok (shape.Sign sign.ShiftRightZero, 3)
+longest : piece (codes ">>>=") ≡ Ok (shape.Sign (sign.Binary (binary.Arithmetic arithmetic.ShiftRightZero)), 3)
 unfolding piece sign_at
 longest = refl
 

@@ -7,12 +7,17 @@ use Rattle.std.proofs.lemmas.Bool.{and_parts, or_cases, leb-true, eqb-true, ltb-
 use Rattle.std.proofs.lemmas.Str.{IsUtf8-append, IsUtf8-nil, IsUtf8-encode, encode_ascii, inside_one, IsUtf8-from_ascii, IsUtf8-from_is_utf8}
 use Rattle.std.proofs.lemmas.Fmt.{IsAscii-decimal}
 use lib.Utf8.{scalar, scalars, encode, encodes, low_scalar}
+use Rattle.jt_syntax.specs.declared.operator.ArithmeticOperator.TheVariants as arithmetic
+use Rattle.jt_syntax.specs.declared.operator.BinaryOperator.{BinaryOperator}
+use Rattle.jt_syntax.specs.declared.operator.BinaryOperator.TheVariants as binary
+use Rattle.jt_syntax.specs.declared.operator.ComparisonOperator.TheVariants as comparison
+use Rattle.jt_syntax.specs.declared.operator.Connective.TheVariants as connective
 use Rattle.jt_syntax.specs.declared.token.Sign.{Sign}
 use Rattle.jt_syntax.specs.declared.token.Sign.TheVariants as sign
 use Rattle.jt_syntax.specs.declared.token.TokenKind.{TokenKind}
 use Rattle.jt_syntax.specs.declared.token.TokenKind.TheVariants as kind
 use Rattle.jt_lexer.specs.Pieces.{Text}
-use Rattle.jt_lexer.specs.Spelled.{sign_spelling, escaped_byte, escaped, spelling, spelled, is_first, is_inner, all_in_word, is_word, IsPrintable, ArePrintable, IsTextual, AreTextual}
+use Rattle.jt_lexer.specs.Spelled.{operator_spelling, sign_spelling, escaped_byte, escaped, spelling, spelled, is_first, is_inner, all_in_word, is_word, IsPrintable, ArePrintable, IsTextual, AreTextual}
 
 pub ascii_then : (b : ℕ) (z : Text) → b < 128 → IsUtf8 z → IsUtf8 (b ∷ z)
 ascii_then b z small u = IsUtf8-append (b ∷ []) z (subst IsUtf8 (encode_ascii b small) (IsUtf8-encode b (low_scalar b (omega (arith, small))))) u
@@ -103,9 +108,17 @@ word_text (b ∷ w) h =
 
 -- ---- signs
 
+operator_text : (o : BinaryOperator) → is_utf8 (operator_spelling o) ≡ true
+unfolding is_utf8 chars encode
+operator_text (binary.Arithmetic arithmetic.Add) = refl
+operator_text (binary.Comparison comparison.Equal) = refl
+operator_text (binary.Connective connective.And) = refl
+operator_text _ = refl
+
 sign_text : (s : Sign) → is_utf8 (sign_spelling s) ≡ true
 unfolding is_utf8 chars encode
 sign_text sign.Begin = refl
+sign_text (sign.Binary o) = operator_text o
 sign_text s = refl
 
 -- ---- all

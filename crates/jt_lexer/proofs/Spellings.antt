@@ -7,19 +7,32 @@ use Rattle.std.specs.Fmt.{decimal}
 use Rattle.std.proofs.lemmas.Bool.{false≢true, and_parts, or_cases, or_parts, le-leb, lt-ltb, eqb-true, false_from_ne_true, and_left, cond_both, and_right, or_left, or_right, not-true, and_from}
 use Rattle.std.proofs.Math.Seq.{take-append_seam}
 use Rattle.std.proofs.lemmas.Fmt.{decimal_by_steps}
+use Rattle.jt_syntax.specs.declared.operator.ArithmeticOperator.TheVariants as arithmetic
+use Rattle.jt_syntax.specs.declared.operator.BinaryOperator.{BinaryOperator}
+use Rattle.jt_syntax.specs.declared.operator.BinaryOperator.TheVariants as binary
+use Rattle.jt_syntax.specs.declared.operator.ComparisonOperator.TheVariants as comparison
+use Rattle.jt_syntax.specs.declared.operator.Connective.TheVariants as connective
 use Rattle.jt_syntax.specs.declared.token.Sign.{Sign}
 use Rattle.jt_syntax.specs.declared.token.Sign.TheVariants as sign
 use Rattle.jt_syntax.specs.declared.token.TokenKind.TheVariants as kind
 use Rattle.jt_lexer.specs.declared.piece.Shape.TheVariants as shape
 use Rattle.jt_lexer.specs.Pieces.{Text, piece, with_digit, number_from, is_escape, string_from, begins_word, goes_on, word_len, word, whole_len, is_base_threads, prefix_len, is_base_threads_word, is_threads_word, is_base_word, reserved, named, sign_at}
 use Rattle.jt_lexer.proofs.Fronts.{differs, at_number, at_word}
-use Rattle.jt_lexer.specs.Spelled.{sign_spelling, HasSpelling, is_first, is_inner, all_in_word, IsSpelledName, escaped_byte, escaped}
+use Rattle.jt_lexer.specs.Spelled.{operator_spelling, sign_spelling, HasSpelling, is_first, is_inner, all_in_word, IsSpelledName, escaped_byte, escaped}
+
+operator_reads : (o : BinaryOperator) (z : Text) → piece (operator_spelling o ++ 32 ∷ z) ≡ Ok (shape.Sign (sign.Binary o), length (operator_spelling o))
+unfolding piece sign_at
+operator_reads (binary.Arithmetic arithmetic.Add) z = refl
+operator_reads (binary.Comparison comparison.Equal) z = refl
+operator_reads (binary.Connective connective.And) z = refl
+operator_reads _ z = refl
 
 pub sign_reads : (s : Sign) (z : Text) → HasSpelling (kind.Sign s) → piece (sign_spelling s ++ 32 ∷ z) ≡ Ok (shape.Sign s, length (sign_spelling s))
 unfolding piece word whole_len is_base_threads prefix_len is_base_threads_word is_threads_word is_base_word reserved sign_at
 sign_reads sign.Newline z h = absurd h
 sign_reads sign.Reserved z h = absurd h
 sign_reads sign.Stop z h = absurd h
+sign_reads (sign.Binary o) z h = operator_reads o z
 sign_reads s z h = refl
 
 -- ---- numbers

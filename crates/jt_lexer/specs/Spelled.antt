@@ -3,6 +3,11 @@ use Rattle.std.specs.Prelude.{◌≡◌, ℕ, ◌+◌, ◌^◌, ◌<◌, Bool, t
 use Rattle.std.specs.Char.{is_ascii_alphabetic}
 use Rattle.std.specs.Str.{IsUtf8}
 use Rattle.std.specs.Fmt.{decimal}
+use Rattle.jt_syntax.specs.declared.operator.ArithmeticOperator.TheVariants as arithmetic
+use Rattle.jt_syntax.specs.declared.operator.BinaryOperator.{BinaryOperator}
+use Rattle.jt_syntax.specs.declared.operator.BinaryOperator.TheVariants as binary
+use Rattle.jt_syntax.specs.declared.operator.ComparisonOperator.TheVariants as comparison
+use Rattle.jt_syntax.specs.declared.operator.Connective.TheVariants as connective
 use Rattle.jt_syntax.specs.declared.token.Sign.{Sign}
 use Rattle.jt_syntax.specs.declared.token.Sign.TheVariants as sign
 use Rattle.jt_syntax.specs.declared.token.Token.{Token}
@@ -12,6 +17,29 @@ use Rattle.jt_lexer.specs.Pieces.{Text, goes_on, reserved}
 use Rattle.jt_lexer.specs.Lexer.{token}
 
 -- ---- the spelling of a token
+
+-- one spelling of each operator between two operands
+abbrev pub operator_spelling : BinaryOperator → Text
+operator_spelling (binary.Arithmetic arithmetic.Add) = codes "+"
+operator_spelling (binary.Arithmetic arithmetic.Subtract) = codes "-"
+operator_spelling (binary.Arithmetic arithmetic.Multiply) = codes "*"
+operator_spelling (binary.Arithmetic arithmetic.Divide) = 195 ∷ 183 ∷ []
+operator_spelling (binary.Arithmetic arithmetic.Remainder) = codes "%"
+operator_spelling (binary.Arithmetic arithmetic.Power) = codes "^"
+operator_spelling (binary.Arithmetic arithmetic.And) = codes "&"
+operator_spelling (binary.Arithmetic arithmetic.Or) = codes "|"
+operator_spelling (binary.Arithmetic arithmetic.Xor) = 226 ∷ 138 ∷ 187 ∷ []
+operator_spelling (binary.Arithmetic arithmetic.ShiftLeft) = codes "<<"
+operator_spelling (binary.Arithmetic arithmetic.ShiftRight) = codes ">>"
+operator_spelling (binary.Arithmetic arithmetic.ShiftRightZero) = codes ">>>"
+operator_spelling (binary.Comparison comparison.Equal) = codes "=="
+operator_spelling (binary.Comparison comparison.NotEqual) = codes "!="
+operator_spelling (binary.Comparison comparison.Less) = codes "<"
+operator_spelling (binary.Comparison comparison.LessEqual) = codes "<="
+operator_spelling (binary.Comparison comparison.Greater) = codes ">"
+operator_spelling (binary.Comparison comparison.GreaterEqual) = codes ">="
+operator_spelling (binary.Connective connective.And) = codes "&&"
+operator_spelling (binary.Connective connective.Or) = codes "||"
 
 -- one spelling of each sign and each word that is no name; a newline, the end token and an unused keyword have none
 abbrev pub sign_spelling : Sign → Text
@@ -45,33 +73,14 @@ sign_spelling sign.Spawn = codes "@spawn"
 sign_spelling sign.Async = codes "@async"
 sign_spelling sign.Sync = codes "@sync"
 sign_spelling sign.Threads = codes "@threads"
-sign_spelling sign.ShiftRightZero = codes ">>>"
-sign_spelling sign.ShiftRight = codes ">>"
-sign_spelling sign.ShiftLeft = codes "<<"
-sign_spelling sign.LessEqual = codes "<="
-sign_spelling sign.GreaterEqual = codes ">="
-sign_spelling sign.Equal = codes "=="
-sign_spelling sign.NotEqual = codes "!="
-sign_spelling sign.AndAlso = codes "&&"
-sign_spelling sign.OrElse = codes "||"
+sign_spelling (sign.Binary o) = operator_spelling o
 sign_spelling sign.PlusAssign = codes "+="
 sign_spelling sign.MinusAssign = codes "-="
 sign_spelling sign.StarAssign = codes "*="
 sign_spelling sign.DivideAssign = 195 ∷ 183 ∷ 61 ∷ []
 sign_spelling sign.PercentAssign = codes "%="
-sign_spelling sign.Plus = codes "+"
-sign_spelling sign.Minus = codes "-"
-sign_spelling sign.Star = codes "*"
-sign_spelling sign.Divide = 195 ∷ 183 ∷ []
-sign_spelling sign.Percent = codes "%"
-sign_spelling sign.Caret = codes "^"
-sign_spelling sign.And = codes "&"
-sign_spelling sign.Or = codes "|"
-sign_spelling sign.Xor = 226 ∷ 138 ∷ 187 ∷ []
 sign_spelling sign.Tilde = codes "~"
 sign_spelling sign.Not = codes "!"
-sign_spelling sign.Less = codes "<"
-sign_spelling sign.Greater = codes ">"
 sign_spelling sign.Assign = codes "="
 sign_spelling sign.Question = codes "?"
 sign_spelling sign.Colon = codes ":"

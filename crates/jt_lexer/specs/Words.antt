@@ -1,5 +1,9 @@
 -- The words and signs of the language, in ASCII but for `≤` `≥` `≠` `÷` `⊻`, which are in UTF-8.
 use Rattle.std.specs.Prelude.{ℕ, List, [], ◌∷◌, codes}
+use Rattle.jt_syntax.specs.declared.operator.ArithmeticOperator.TheVariants as arithmetic
+use Rattle.jt_syntax.specs.declared.operator.BinaryOperator.TheVariants as binary
+use Rattle.jt_syntax.specs.declared.operator.ComparisonOperator.TheVariants as comparison
+use Rattle.jt_syntax.specs.declared.operator.Connective.TheVariants as connective
 use Rattle.jt_syntax.specs.declared.token.Sign.{Sign}
 use Rattle.jt_syntax.specs.declared.token.Sign.TheVariants as sign
 
@@ -52,36 +56,36 @@ words =
 -- the signs, each before those that it begins with
 abbrev pub signs : List (List ℕ × Sign)
 signs =
-    (codes ">>>", sign.ShiftRightZero) ∷
-    (codes ">>", sign.ShiftRight) ∷
-    (codes "<<", sign.ShiftLeft) ∷
-    (codes "<=", sign.LessEqual) ∷
-    (codes ">=", sign.GreaterEqual) ∷
-    (codes "==", sign.Equal) ∷
-    (codes "!=", sign.NotEqual) ∷
-    ((226 ∷ 137 ∷ 164 ∷ []), sign.LessEqual) ∷
-    ((226 ∷ 137 ∷ 165 ∷ []), sign.GreaterEqual) ∷
-    ((226 ∷ 137 ∷ 160 ∷ []), sign.NotEqual) ∷
-    (codes "&&", sign.AndAlso) ∷
-    (codes "||", sign.OrElse) ∷
+    (codes ">>>", sign.Binary (binary.Arithmetic arithmetic.ShiftRightZero)) ∷
+    (codes ">>", sign.Binary (binary.Arithmetic arithmetic.ShiftRight)) ∷
+    (codes "<<", sign.Binary (binary.Arithmetic arithmetic.ShiftLeft)) ∷
+    (codes "<=", sign.Binary (binary.Comparison comparison.LessEqual)) ∷
+    (codes ">=", sign.Binary (binary.Comparison comparison.GreaterEqual)) ∷
+    (codes "==", sign.Binary (binary.Comparison comparison.Equal)) ∷
+    (codes "!=", sign.Binary (binary.Comparison comparison.NotEqual)) ∷
+    ((226 ∷ 137 ∷ 164 ∷ []), sign.Binary (binary.Comparison comparison.LessEqual)) ∷
+    ((226 ∷ 137 ∷ 165 ∷ []), sign.Binary (binary.Comparison comparison.GreaterEqual)) ∷
+    ((226 ∷ 137 ∷ 160 ∷ []), sign.Binary (binary.Comparison comparison.NotEqual)) ∷
+    (codes "&&", sign.Binary (binary.Connective connective.And)) ∷
+    (codes "||", sign.Binary (binary.Connective connective.Or)) ∷
     (codes "+=", sign.PlusAssign) ∷
     (codes "-=", sign.MinusAssign) ∷
     (codes "*=", sign.StarAssign) ∷
     ((195 ∷ 183 ∷ 61 ∷ []), sign.DivideAssign) ∷
     (codes "%=", sign.PercentAssign) ∷
-    (codes "+", sign.Plus) ∷
-    (codes "-", sign.Minus) ∷
-    (codes "*", sign.Star) ∷
-    ((195 ∷ 183 ∷ []), sign.Divide) ∷
-    (codes "%", sign.Percent) ∷
-    (codes "^", sign.Caret) ∷
-    (codes "&", sign.And) ∷
-    (codes "|", sign.Or) ∷
-    ((226 ∷ 138 ∷ 187 ∷ []), sign.Xor) ∷
+    (codes "+", sign.Binary (binary.Arithmetic arithmetic.Add)) ∷
+    (codes "-", sign.Binary (binary.Arithmetic arithmetic.Subtract)) ∷
+    (codes "*", sign.Binary (binary.Arithmetic arithmetic.Multiply)) ∷
+    ((195 ∷ 183 ∷ []), sign.Binary (binary.Arithmetic arithmetic.Divide)) ∷
+    (codes "%", sign.Binary (binary.Arithmetic arithmetic.Remainder)) ∷
+    (codes "^", sign.Binary (binary.Arithmetic arithmetic.Power)) ∷
+    (codes "&", sign.Binary (binary.Arithmetic arithmetic.And)) ∷
+    (codes "|", sign.Binary (binary.Arithmetic arithmetic.Or)) ∷
+    ((226 ∷ 138 ∷ 187 ∷ []), sign.Binary (binary.Arithmetic arithmetic.Xor)) ∷
     (codes "~", sign.Tilde) ∷
     (codes "!", sign.Not) ∷
-    (codes "<", sign.Less) ∷
-    (codes ">", sign.Greater) ∷
+    (codes "<", sign.Binary (binary.Comparison comparison.Less)) ∷
+    (codes ">", sign.Binary (binary.Comparison comparison.Greater)) ∷
     (codes "=", sign.Assign) ∷
     (codes "?", sign.Question) ∷
     (codes ":", sign.Colon) ∷

@@ -1,6 +1,12 @@
 //! The words and signs of the language.
 
-use jt_syntax::Sign;
+use jt_syntax::ArithmeticOperator::{
+    Add, And, Divide, Multiply, Or, Power, Remainder, ShiftLeft, ShiftRight, ShiftRightZero,
+    Subtract, Xor,
+};
+use jt_syntax::BinaryOperator::{Arithmetic, Comparison};
+use jt_syntax::ComparisonOperator::{Equal, Greater, GreaterEqual, Less, LessEqual, NotEqual};
+use jt_syntax::{BinaryOperator, Connective, Sign};
 
 /// The words that are no names.
 pub const WORDS: [(&[u8], Sign); 41] = [
@@ -49,36 +55,42 @@ pub const WORDS: [(&[u8], Sign); 41] = [
 
 /// The signs, each before those that it begins with.
 pub const SIGNS: [(&[u8], Sign); 43] = [
-    (b">>>", Sign::ShiftRightZero),
-    (b">>", Sign::ShiftRight),
-    (b"<<", Sign::ShiftLeft),
-    (b"<=", Sign::LessEqual),
-    (b">=", Sign::GreaterEqual),
-    (b"==", Sign::Equal),
-    (b"!=", Sign::NotEqual),
-    (b"\xe2\x89\xa4", Sign::LessEqual),
-    (b"\xe2\x89\xa5", Sign::GreaterEqual),
-    (b"\xe2\x89\xa0", Sign::NotEqual),
-    (b"&&", Sign::AndAlso),
-    (b"||", Sign::OrElse),
+    (b">>>", Sign::Binary(Arithmetic(ShiftRightZero))),
+    (b">>", Sign::Binary(Arithmetic(ShiftRight))),
+    (b"<<", Sign::Binary(Arithmetic(ShiftLeft))),
+    (b"<=", Sign::Binary(Comparison(LessEqual))),
+    (b">=", Sign::Binary(Comparison(GreaterEqual))),
+    (b"==", Sign::Binary(Comparison(Equal))),
+    (b"!=", Sign::Binary(Comparison(NotEqual))),
+    (b"\xe2\x89\xa4", Sign::Binary(Comparison(LessEqual))),
+    (b"\xe2\x89\xa5", Sign::Binary(Comparison(GreaterEqual))),
+    (b"\xe2\x89\xa0", Sign::Binary(Comparison(NotEqual))),
+    (
+        b"&&",
+        Sign::Binary(BinaryOperator::Connective(Connective::And)),
+    ),
+    (
+        b"||",
+        Sign::Binary(BinaryOperator::Connective(Connective::Or)),
+    ),
     (b"+=", Sign::PlusAssign),
     (b"-=", Sign::MinusAssign),
     (b"*=", Sign::StarAssign),
     (b"\xc3\xb7=", Sign::DivideAssign),
     (b"%=", Sign::PercentAssign),
-    (b"+", Sign::Plus),
-    (b"-", Sign::Minus),
-    (b"*", Sign::Star),
-    (b"\xc3\xb7", Sign::Divide),
-    (b"%", Sign::Percent),
-    (b"^", Sign::Caret),
-    (b"&", Sign::And),
-    (b"|", Sign::Or),
-    (b"\xe2\x8a\xbb", Sign::Xor),
+    (b"+", Sign::Binary(Arithmetic(Add))),
+    (b"-", Sign::Binary(Arithmetic(Subtract))),
+    (b"*", Sign::Binary(Arithmetic(Multiply))),
+    (b"\xc3\xb7", Sign::Binary(Arithmetic(Divide))),
+    (b"%", Sign::Binary(Arithmetic(Remainder))),
+    (b"^", Sign::Binary(Arithmetic(Power))),
+    (b"&", Sign::Binary(Arithmetic(And))),
+    (b"|", Sign::Binary(Arithmetic(Or))),
+    (b"\xe2\x8a\xbb", Sign::Binary(Arithmetic(Xor))),
     (b"~", Sign::Tilde),
     (b"!", Sign::Not),
-    (b"<", Sign::Less),
-    (b">", Sign::Greater),
+    (b"<", Sign::Binary(Comparison(Less))),
+    (b">", Sign::Binary(Comparison(Greater))),
     (b"=", Sign::Assign),
     (b"?", Sign::Question),
     (b":", Sign::Colon),

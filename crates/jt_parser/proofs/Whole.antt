@@ -8,9 +8,9 @@ use Rattle.jt_grammar.specs.Nesting.{TopsWithin}
 use Rattle.jt_grammar.specs.Reader.{script}
 use Rattle.jt_grammar.proofs.Joining.{IsAt}
 use Rattle.jt_grammar.proofs.Main.{lines_found, lines_unexpected, lines_deep, lines_spent}
-use Rattle.jt_parser.specs.declared.fault.Fault.{Fault}
-use Rattle.jt_parser.specs.declared.fault.Fault.TheVariants as fault
-use Rattle.jt_parser.specs.Reads.{Fails}
+use Rattle.jt_cursor.specs.declared.fault.Fault.{Fault}
+use Rattle.jt_cursor.specs.declared.fault.Fault.TheVariants as fault
+use Rattle.jt_cursor.specs.Reads.{Fails}
 
 module _ (ts js cur : List Token) (n : ℕ) (whole : EndsWithStop ts) (joins : js ≡ joined ts) (cursor : cur ≡ js) (turns : n ≡ length js + 1) where
   enough : length js < n

@@ -1,10 +1,2 @@
-pub mod Arms
-pub mod Chains
-pub mod Guards
-pub mod Kinds
-pub mod Names
-pub mod Nests
-pub mod Reads
+pub mod Forms
 pub mod Refusals
-pub mod Statements
-pub mod Tokens

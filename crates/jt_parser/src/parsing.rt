@@ -8,13 +8,11 @@ ghost use Rattle.jt_syntax.specs.Tree.{TopTree};
 ghost use Rattle.jt_syntax.specs.View.{script_view};
 ghost use Rattle.jt_syntax.specs.declared.token.Token.{Token};
 ghost use Rattle.jt_parser.specs.Refusals.{Refuses};
-ghost use Rattle.jt_parser.specs.Tokens.{now};
+ghost use Rattle.jt_cursor.specs.Tokens.{now};
 
-use crate::cursor::Cursor;
 use crate::error::ParseError;
-use crate::fault::Fault;
-use crate::lines::join;
 use crate::top::script;
+use jt_cursor::{Cursor, Fault, join};
 use jt_syntax::{Script, Token};
 use std::alloc::Global;
 

@@ -3,27 +3,29 @@
 ghost use Rattle.std.specs.Prelude.{[], ◌∷◌};
 ghost use Rattle.jt_grammar.specs.Reader as spec;
 ghost use Rattle.jt_syntax.specs.View.{stmt_view, form_view, top_view, top_views};
-ghost use Rattle.jt_parser.specs.Nests.{Nests, nested};
-ghost use Rattle.jt_parser.specs.Reads.{Reads, same};
-ghost use Rattle.jt_parser.specs.Statements.{stepped_form};
+ghost use Rattle.jt_expressions.specs.Nested.{nested};
+ghost use Rattle.jt_cursor.specs.Reads.{Reads, same};
+ghost use Rattle.jt_parser.specs.Forms.{function_body, named_function, short_function, stepped_form};
 
-use crate::block::ends;
-use crate::cursor::{Cursor, Kind};
-use crate::fault::Fault;
-use crate::read::{read, read_step};
-use crate::rules::Rules;
-use crate::target::step_target;
-use jt_grammar::{Level, Target};
-use jt_syntax::{Expr, Identifier, Sign, Stmt, Top, TopForm};
-use sqlite_items::{Boxed, Items};
+use jt_cursor::{Cursor, Fault, Kind, ends, step_target};
+use jt_grammar::Target;
+use jt_statements::{statement, tail, whole};
+use jt_syntax::{Identifier, Sign, Stmt, Top, TopForm};
+use sqlite_items::Items;
 use std::alloc::Global;
 
-impl<
-    F: Fn(Global, &mut Cursor<'_>, usize, usize, Level) -> Result<Expr, Fault>,
-    G: Fn(Global, &mut Cursor<'_>, usize, usize) -> Result<Stmt, Fault>,
-> Rules<F, G> {
+/// The rules of what stands between two separators of a script.
+#[derive(Clone, Copy)]
+struct TopRules {
+    alloc: Global,
+    /// More than there are tokens, so that no list is cut short.
+    turns: usize,
+    /// How many openers may be open.
+    depth: usize,
+}
+
+impl TopRules {
     fn using_read(&self, tokens: &mut Cursor<'_>) -> Result<TopForm, Fault>
-        requires { Nests self.now.turns self.now.depth (F.pre self.now.read) (F.post self.now.read) (G.pre self.now.step) (G.post self.now.step) }
         ensures { Reads form_view (nested spec.using_read self.now.turns self.now.depth tokens.old) result tokens.new }
     {
         tokens.skip()?;
@@ -32,13 +34,12 @@ impl<
     }
 
     fn constant_read(&self, tokens: &mut Cursor<'_>) -> Result<TopForm, Fault>
-        requires { Nests self.now.turns self.now.depth (F.pre self.now.read) (F.post self.now.read) (G.pre self.now.step) (G.post self.now.step) }
         ensures { Reads form_view (nested spec.constant_read self.now.turns self.now.depth tokens.old) result tokens.new }
     {
         tokens.skip()?;
         let name = tokens.word(self.alloc)?;
         tokens.expect(Sign::Assign)?;
-        Ok(TopForm::Constant(name, self.whole(tokens)?))
+        Ok(TopForm::Constant(name, whole(self.alloc, tokens, self.turns, self.depth)?))
     }
 
     fn more_names(
@@ -46,7 +47,6 @@ impl<
         tokens: &mut Cursor<'_>,
         mut found: Items<Identifier>,
     ) -> Result<Items<Identifier>, Fault>
-        requires { Nests self.now.turns self.now.depth (F.pre self.now.read) (F.post self.now.read) (G.pre self.now.step) (G.post self.now.step) }
         ensures { Reads same (spec.commas_from spec.word [] (λ i is. i ∷ is) self.now.turns found tokens.old) result tokens.new }
     {
         for _turn in 0..self.turns {
@@ -59,9 +59,8 @@ impl<
         Err(Fault::Spent)
     }
 
-    #[tactic(auto, using(crate::proofs::Lists::commas_one))]
+    #[tactic(auto, using(jt_cursor::proofs::Lists::commas_one))]
     fn names(&self, tokens: &mut Cursor<'_>) -> Result<Items<Identifier>, Fault>
-        requires { Nests self.now.turns self.now.depth (F.pre self.now.read) (F.post self.now.read) (G.pre self.now.step) (G.post self.now.step) }
         ensures { Reads same (nested spec.names self.now.turns self.now.depth tokens.old) result tokens.new }
     {
         let mut found = Items::new(self.alloc);
@@ -72,62 +71,89 @@ impl<
         self.more_names(tokens, found)
     }
 
+    /// Behind the parameters of a function.
+    fn function_body(
+        &self,
+        tokens: &mut Cursor<'_>,
+        name: Identifier,
+        parameters: Items<Identifier>,
+    ) -> Result<TopForm, Fault>
+        ensures { Reads form_view (nested function_body self.now.turns self.now.depth name parameters tokens.old) result tokens.new }
+    {
+        let body = tail(self.alloc, tokens, self.turns, self.depth)?;
+        tokens.expect(Sign::End)?;
+        Ok(TopForm::Function(name, parameters, body))
+    }
+
+    /// Behind the name of a function.
+    fn named_function(&self, tokens: &mut Cursor<'_>, name: Identifier) -> Result<TopForm, Fault>
+        ensures { Reads form_view (nested named_function self.now.turns self.now.depth name tokens.old) result tokens.new }
+    {
+        tokens.opening(self.depth.saturating_sub(1), Sign::Open)?;
+        let parameters = self.names(tokens)?;
+        tokens.expect(Sign::Close)?;
+        self.function_body(tokens, name, parameters)
+    }
+
     fn function_read(&self, tokens: &mut Cursor<'_>) -> Result<TopForm, Fault>
-        requires { Nests self.now.turns self.now.depth (F.pre self.now.read) (F.post self.now.read) (G.pre self.now.step) (G.post self.now.step) }
         ensures { Reads form_view (nested spec.function_read self.now.turns self.now.depth tokens.old) result tokens.new }
     {
         tokens.opening(self.depth, Sign::Function)?;
         let name = tokens.word(self.alloc)?;
-        tokens.opening(self.depth.saturating_sub(1), Sign::Open)?;
-        let parameters = self.names(tokens)?;
-        tokens.expect(Sign::Close)?;
-        let body = self.tail(tokens)?;
-        tokens.expect(Sign::End)?;
-        Ok(TopForm::Function(name, parameters, body))
+        self.named_function(tokens, name)
+    }
+
+    fn short_function(
+        &self,
+        tokens: &mut Cursor<'_>,
+        name: Identifier,
+        parameters: Items<Identifier>,
+    ) -> Result<TopForm, Fault>
+        ensures { Reads form_view (nested short_function self.now.turns self.now.depth name parameters tokens.old) result tokens.new }
+    {
+        tokens.skip()?;
+        Ok(TopForm::ShortFunction(
+            name,
+            parameters,
+            whole(self.alloc, tokens, self.turns, self.depth)?,
+        ))
     }
 
     fn short_by(
         &self,
         tokens: &mut Cursor<'_>,
-        step: Boxed<Stmt>,
+        step: Stmt,
         target: Target,
     ) -> Result<TopForm, Fault>
-        requires { Nests self.now.turns self.now.depth (F.pre self.now.read) (F.post self.now.read) (G.pre self.now.step) (G.post self.now.step) }
         ensures { Reads form_view (nested spec.short_by self.now.turns self.now.depth (stmt_view step) target tokens.old) result tokens.new }
     {
         match target {
-            Target::Function(name, parameters) => {
-                tokens.skip()?;
-                Ok(TopForm::ShortFunction(name, parameters, self.whole(tokens)?))
-            }
-            Target::Variable(_) => Ok(TopForm::Stmt(step.into_inner())),
-            Target::Element(_) => Ok(TopForm::Stmt(step.into_inner())),
-            Target::Other => Ok(TopForm::Stmt(step.into_inner())),
+            Target::Function(name, parameters) => self.short_function(tokens, name, parameters),
+            Target::Variable(_) => Ok(TopForm::Stmt(step)),
+            Target::Element(_) => Ok(TopForm::Stmt(step)),
+            Target::Other => Ok(TopForm::Stmt(step)),
         }
     }
 
     /// Behind a statement, which may be the left side of a short function.
-    fn shortened(&self, tokens: &mut Cursor<'_>, step: Boxed<Stmt>) -> Result<TopForm, Fault>
-        requires { Nests self.now.turns self.now.depth (F.pre self.now.read) (F.post self.now.read) (G.pre self.now.step) (G.post self.now.step) }
+    fn shortened(&self, tokens: &mut Cursor<'_>, step: Stmt) -> Result<TopForm, Fault>
         ensures { Reads form_view (nested spec.shortened self.now.turns self.now.depth (stmt_view step) tokens.old) result tokens.new }
     {
         if !tokens.sees(Sign::Assign) {
-            return Ok(TopForm::Stmt(step.into_inner()));
+            return Ok(TopForm::Stmt(step));
         }
-        let target = step_target(self.alloc, step.get())?;
+        let target = step_target(self.alloc, &step)?;
         self.short_by(tokens, step, target)
     }
 
     fn stepped_form(&self, tokens: &mut Cursor<'_>) -> Result<TopForm, Fault>
-        requires { Nests self.now.turns self.now.depth (F.pre self.now.read) (F.post self.now.read) (G.pre self.now.step) (G.post self.now.step) }
         ensures { Reads form_view (nested stepped_form self.now.turns self.now.depth tokens.old) result tokens.new }
     {
-        let step = Boxed::new(self.alloc, self.stepped(tokens)?)?;
+        let step = statement(self.alloc, tokens, self.turns, self.depth)?;
         self.shortened(tokens, step)
     }
 
     fn form(&self, tokens: &mut Cursor<'_>) -> Result<TopForm, Fault>
-        requires { Nests self.now.turns self.now.depth (F.pre self.now.read) (F.post self.now.read) (G.pre self.now.step) (G.post self.now.step) }
         ensures { Reads form_view (nested spec.form_by self.now.turns self.now.depth (spec.kind_of tokens.old) tokens.old) result tokens.new }
     {
         match tokens.kind() {
@@ -141,7 +167,6 @@ impl<
 
     #[tactic(auto, unfolding(jt_grammar::specs::Reader::topped))]
     fn topped(&self, tokens: &mut Cursor<'_>) -> Result<Top, Fault>
-        requires { Nests self.now.turns self.now.depth (F.pre self.now.read) (F.post self.now.read) (G.pre self.now.step) (G.post self.now.step) }
         ensures { Reads top_view (nested spec.topped self.now.turns self.now.depth tokens.old) result tokens.new }
     {
         let at = tokens.place();
@@ -159,12 +184,10 @@ fn read_top(
 ) -> Result<Top, Fault>
     ensures { Reads top_view (spec.read_top turns depth tokens.old) result tokens.new }
 {
-    Rules {
+    TopRules {
         alloc,
         turns,
         depth,
-        read,
-        step: read_step,
     }
     .topped(tokens)
 }
@@ -192,8 +215,8 @@ fn tops(
 }
 
 /// A script in which no more than `depth` openers are open at once.
-#[tactic(auto, unfolding(jt_grammar::specs::Reader::script), using(crate::proofs::Lists::list_start))]
-pub fn script(
+#[tactic(auto, unfolding(jt_grammar::specs::Reader::script), using(jt_cursor::proofs::Lists::list_start))]
+pub(crate) fn script(
     alloc: Global,
     tokens: &mut Cursor<'_>,
     turns: usize,

@@ -37,15 +37,12 @@ else_added o a b c n arms ss T S first second third fourth =
     let joined : (((o ++ X) ++ mark sign.Else) ++ steps_kinds ss) ++ mark sign.End ≡ (o ++ X) ++ L = append_assoc ((o ++ X) ++ mark sign.Else) (steps_kinds ss) (mark sign.End) ∙ append_assoc (o ++ X) (mark sign.Else) (steps_kinds ss ++ mark sign.End) in
     written ∙ (joined ∙ (append_assoc o X L ∙ ap (λ z. o ++ (kind.Sign sign.If ∷ z)) (sym whole)))
 
--- the same, where the parts that were written are equal to these
-pub else_written : (o a b c n : List TokenKind) (arms arms' : List (Tree × Steps)) (ss ss' : Steps) (T T' S S' : List TokenKind)
-    → T ≡ T' → S ≡ S' → arms ≡ arms' → ss ≡ ss'
+-- the same, where what stands behind `else` is equal to what was written
+pub else_written : (o a b c n : List TokenKind) (arms : List (Tree × Steps)) (ss ss' : Steps) (T S : List TokenKind)
+    → ss ≡ ss'
     → a ≡ o ++ (kind.Sign sign.If ∷ (T ++ (kind.Sign sign.Semicolon ∷ (S ++ arms_kinds (arms_of arms tree.no_arms)))))
     → b ≡ a ++ mark sign.Else
     → c ≡ b ++ steps_kinds ss
     → n ≡ c ++ mark sign.End
-    → n ≡ o ++ (kind.Sign sign.If ∷ (T' ++ (kind.Sign sign.Semicolon ∷ (S' ++ (arms_kinds (arms_of arms' (tree.otherwise ss')) ++ mark sign.End)))))
-else_written o a b c n arms arms' ss ss' T T' S S' test body behind last first second third fourth =
-    let written : List TokenKind → List TokenKind → List (Tree × Steps) → List TokenKind = λ t s xs. o ++ (kind.Sign sign.If ∷ (t ++ (kind.Sign sign.Semicolon ∷ (s ++ arms_kinds (arms_of xs tree.no_arms))))) in
-    let same = ap (λ t. written t S arms) test ∙ (ap (λ s. written T' s arms) body ∙ ap (λ xs. written T' S' xs) behind) in
-    else_added o a b c n arms' ss' T' S' (first ∙ same) second (third ∙ ap (λ z. b ++ steps_kinds z) last) fourth
+    → n ≡ o ++ (kind.Sign sign.If ∷ (T ++ (kind.Sign sign.Semicolon ∷ (S ++ (arms_kinds (arms_of arms (tree.otherwise ss')) ++ mark sign.End)))))
+else_written o a b c n arms ss ss' T S last first second third fourth = else_added o a b c n arms ss' T S first second (third ∙ ap (λ z. b ++ steps_kinds z) last) fourth

@@ -1,5 +1,5 @@
 -- The tokens of a text end with the end token, are few, and don't stand beside a refusal.
-use Rattle.std.proofs.Common.{◌≡◌, ℕ, ◌+◌, ◌≤◌, List, [], ◌∷◌, length, Ok, Err, refl, sym, ap, subst, ◌∙◌, arith, length-append}
+use Rattle.std.proofs.Common.{◌≡◌, ℕ, ◌+◌, ◌≤◌, List, [], ◌∷◌, length, Result, Ok, Err, IfOk, IfErr, refl, sym, ap, subst, ◌∙◌, arith, length-append}
 use Rattle.jt_grammar.proofs.OneRefusal.{not_unexpected, not_too_deep}
 use Rattle.jt_grammar.specs.Grammar.{token, NoStop as HasNoStop, IsStop, EndsWithStop}
 use Rattle.jt_lexer.proofs.TokenLaws.{tokens_read, refusal_read}
@@ -13,8 +13,12 @@ use Rattle.jt_syntax.specs.declared.token.Sign.TheVariants as sign
 use Rattle.jt_syntax.specs.declared.token.Token.{Token}
 use Rattle.jt_syntax.specs.declared.token.TokenKind.{TokenKind}
 use Rattle.jt_syntax.specs.declared.token.TokenKind.TheVariants as kind
-use Rattle.jt_printer.specs.Again.{ReadsAs, IsSameScript}
-use Rattle.jt_printer.specs.Reread.{most_text, most_open}
+use Rattle.jt_syntax.specs.View.{script_view}
+use Rattle.jt_syntax.specs.declared.script.Script.{Script}
+use Rattle.jt_printer.specs.Again.{WasRead, ReadsAs, Gives, IsSameScript, IsScriptWithin}
+use Rattle.jt_printer.specs.Reread.{most_text, most_open, IsReread, Refuses as Refused, IsShort}
+use Rattle.jt_printer.specs.declared.reading.RereadError.{RereadError}
+use Rattle.jt_printer.specs.declared.reading.RereadError.TheVariants as error
 
 -- the tokens of a text end with the end token
 not_stop : (k : TokenKind) → IsNoStop k → IsStop k → ⊥
@@ -74,3 +78,15 @@ too_deep_is_none e at is none = too_deep_not_none (sym is ∙ none)
 
 pub sliced : (ts us : List Token) → us ≡ ts → EndsWithStop ts → EndsWithStop us
 sliced ts us same e = subst EndsWithStop (sym same) e
+
+-- a script that the tokens are is what a text with these tokens gives
+pub given_of : (text : List ℕ) (ts : List Token) (r : Result Script RereadError) → IsTokensOf text ts → IfOk r (λ s. IsScriptWithin most_open ts (script_view s)) → IfOk r (λ s. Gives most_open text (script_view s))
+given_of text ts (Ok s) of k = (ts, of, k)
+given_of text ts (Err e) of k = k
+
+-- what an error says, where a script that was read is there again
+pub refusal_told : (tops : List TopTree) (r : Result Script RereadError) → (WasRead most_open tops → IsReread tops r) → IfErr r IsShort → IfErr r (Refused tops)
+refusal_told tops (Ok s) again short = short
+refusal_told tops (Err error.TooLong) again short = absurd short
+refusal_told tops (Err error.NoScript) again short = again
+refusal_told tops (Err error.OutOfMemory) again short = tt

@@ -24,3 +24,7 @@ IsSameScript d tops ts = (others : List TopTree) × IsScriptWithin d ts others �
 -- the text has tokens, and whatever tokens it has are the same script
 abbrev pub ReadsAs : ℕ → List TopTree → Text → Type 0
 ReadsAs d tops text = IsUtf8 text × ((ts : List Token) × IsTokensOf text ts) × ((ts : List Token) → IsTokensOf text ts → IsSameScript d tops ts)
+
+-- the text reads as this very script
+abbrev pub Gives : ℕ → Text → List TopTree → Type 0
+Gives d text tops = (ts : List Token) × IsTokensOf text ts × IsScriptWithin d ts tops

@@ -5,6 +5,7 @@ use Rattle.jt_syntax.specs.View.{script_view}
 use Rattle.jt_syntax.specs.declared.script.Script.{Script}
 use Rattle.jt_lexer.specs.Spelled.{spelled}
 use Rattle.jt_grammar.specs.Printed.{script_kinds, bare_script}
+use Rattle.jt_printer.specs.Again.{WasRead}
 use Rattle.jt_printer.specs.declared.reading.RereadError.{RereadError}
 use Rattle.jt_printer.specs.declared.reading.RereadError.TheVariants as error
 
@@ -21,3 +22,15 @@ IsReread tops (Ok script) = bare_script (script_view script) ≡ bare_script top
 IsReread tops (Err error.TooLong) = most_text < length (spelled (script_kinds tops))
 IsReread tops (Err error.NoScript) = ⊥
 IsReread tops (Err error.OutOfMemory) = Unit {0}
+
+-- what an error says of the script, whether or not it was read from a text
+abbrev pub Refuses : List TopTree → RereadError → Type 0
+Refuses tops error.TooLong = most_text < length (spelled (script_kinds tops))
+Refuses tops error.NoScript = ¬ WasRead most_open tops
+Refuses tops error.OutOfMemory = Unit {0}
+
+-- it isn't that the printed text is too long
+abbrev pub IsShort : RereadError → Type 0
+IsShort error.TooLong = ⊥
+IsShort error.NoScript = Unit {0}
+IsShort error.OutOfMemory = Unit {0}

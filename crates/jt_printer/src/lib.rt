@@ -2,6 +2,7 @@
 #![tactic(auto)]
 
 mod kinds;
+mod memory;
 mod operator;
 mod print;
 mod reading;
@@ -9,6 +10,7 @@ mod script;
 mod text;
 mod trees;
 
+pub use memory::OutOfMemory;
 pub use print::print_script;
 pub use reading::{RereadError, reread};
 pub use script::kinds_of;

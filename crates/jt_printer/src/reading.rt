@@ -1,11 +1,13 @@
 //! Reading again what was printed.
 
-ghost use Rattle.std.specs.Prelude.{◌+◌, ◌≤◌, List, length};
+ghost use Rattle.std.specs.Prelude.{◌+◌, ◌≤◌, List, length, IfOk, IfErr};
 ghost use Rattle.jt_grammar.specs.Grammar.{EndsWithStop};
+ghost use Rattle.jt_grammar.specs.Printed.{script_kinds};
+ghost use Rattle.jt_lexer.specs.Spelled.{spelled};
 ghost use Rattle.jt_syntax.specs.Tree.{TopTree};
 ghost use Rattle.jt_syntax.specs.View.{script_view};
-ghost use Rattle.jt_printer.specs.Again.{WasRead, ReadsAs, IsSameScript};
-ghost use Rattle.jt_printer.specs.Reread.{most_text, most_open, IsReread};
+ghost use Rattle.jt_printer.specs.Again.{WasRead, ReadsAs, Gives, IsSameScript, IsScriptWithin};
+ghost use Rattle.jt_printer.specs.Reread.{most_text, most_open, IsReread, Refuses, IsShort};
 
 use crate::print::print_script;
 use jt_lexer::{LexError, lex};
@@ -27,15 +29,17 @@ pub enum RereadError {
     OutOfMemory,
 }
 
-/// Prints a script, and reads the text. Where the script was read from a text, it is the same again
-/// but for its places.
+/// Prints a script, and reads the text: the script that is returned is what the text says. Where
+/// the script was read from a text, it is the same again but for its places.
 ///
 /// # Errors
 ///
-/// `TooLong` only where the printed text is longer than a text that is read, and want of memory;
-/// `NoScript` for scripts made by hand alone.
+/// `TooLong` only where the printed text is longer than a text that is read; `NoScript` only where
+/// the script was made by hand, and read from no text; and `OutOfMemory`.
 pub fn reread(alloc: Global, script: &Script) -> Result<Script, RereadError>
     ensures again { WasRead most_open (script_view script.now) → IsReread (script_view script.now) result }
+    ensures found { IfOk result (λ found. Gives most_open (spelled (script_kinds (script_view script.now))) (script_view found)) }
+    ensures refused { IfErr result (Refuses (script_view script.now)) }
 {
     let Ok(text) = print_script(alloc, script) else {
         return Err(RereadError::OutOfMemory);
@@ -49,7 +53,9 @@ pub fn reread(alloc: Global, script: &Script) -> Result<Script, RereadError>
 /// The script that these bytes are.
 fn read_bytes(alloc: Global, bytes: &[u8]) -> Result<Script, RereadError>
     requires { length bytes.now ≤ most_text }
-    ensures { (tops : List TopTree) → ReadsAs most_open tops bytes.now → IsReread tops result }
+    ensures again { (tops : List TopTree) → ReadsAs most_open tops bytes.now → IsReread tops result }
+    ensures found { IfOk result (λ found. Gives most_open bytes.now (script_view found)) }
+    ensures short { IfErr result IsShort }
 {
     let Ok(text) = str::from_utf8(bytes) else {
         return Err(RereadError::NoScript);
@@ -67,7 +73,9 @@ fn read_bytes(alloc: Global, bytes: &[u8]) -> Result<Script, RereadError>
 fn read_tokens(alloc: Global, tokens: &[Token]) -> Result<Script, RereadError>
     requires whole { EndsWithStop tokens.now }
     requires few { length tokens.now ≤ most_text + 1 }
-    ensures { (tops : List TopTree) → IsSameScript most_open tops tokens.now → IsReread tops result }
+    ensures again { (tops : List TopTree) → IsSameScript most_open tops tokens.now → IsReread tops result }
+    ensures found { IfOk result (λ found. IsScriptWithin most_open tokens.now (script_view found)) }
+    ensures short { IfErr result IsShort }
 {
     match parse(alloc, tokens) {
         Ok(script) => Ok(script),

@@ -2,11 +2,42 @@
 
 ghost use Rattle.std.specs.Prelude.{◌≡◌, ◌++◌, OnOk, IfOk};
 ghost use Rattle.jt_syntax.specs.declared.token.TokenKind.TheVariants as kind;
-ghost use Rattle.jt_lexer.specs.Spelled.{sign_spelling, escaped_byte, spelling, spelled};
+ghost use Rattle.jt_lexer.specs.Spelled.{operator_spelling, sign_spelling, escaped_byte, spelling, spelled};
 
+use crate::memory::OutOfMemory;
 use itoa::Buffer;
-use jt_syntax::{Sign, TokenKind};
-use std::alloc::{AllocError, Global};
+use jt_syntax::{
+    ArithmeticOperator, BinaryOperator, ComparisonOperator, Connective, Sign, TokenKind,
+};
+use std::alloc::Global;
+
+/// How an operator between two operands is written.
+fn operator_text(operator: BinaryOperator) -> &'static [u8]
+    ensures { result.now ≡ operator_spelling operator }
+{
+    match operator {
+        BinaryOperator::Arithmetic(ArithmeticOperator::Add) => b"+",
+        BinaryOperator::Arithmetic(ArithmeticOperator::Subtract) => b"-",
+        BinaryOperator::Arithmetic(ArithmeticOperator::Multiply) => b"*",
+        BinaryOperator::Arithmetic(ArithmeticOperator::Divide) => b"\xC3\xB7",
+        BinaryOperator::Arithmetic(ArithmeticOperator::Remainder) => b"%",
+        BinaryOperator::Arithmetic(ArithmeticOperator::Power) => b"^",
+        BinaryOperator::Arithmetic(ArithmeticOperator::And) => b"&",
+        BinaryOperator::Arithmetic(ArithmeticOperator::Or) => b"|",
+        BinaryOperator::Arithmetic(ArithmeticOperator::Xor) => b"\xE2\x8A\xBB",
+        BinaryOperator::Arithmetic(ArithmeticOperator::ShiftLeft) => b"<<",
+        BinaryOperator::Arithmetic(ArithmeticOperator::ShiftRight) => b">>",
+        BinaryOperator::Arithmetic(ArithmeticOperator::ShiftRightZero) => b">>>",
+        BinaryOperator::Comparison(ComparisonOperator::Equal) => b"==",
+        BinaryOperator::Comparison(ComparisonOperator::NotEqual) => b"!=",
+        BinaryOperator::Comparison(ComparisonOperator::Less) => b"<",
+        BinaryOperator::Comparison(ComparisonOperator::LessEqual) => b"<=",
+        BinaryOperator::Comparison(ComparisonOperator::Greater) => b">",
+        BinaryOperator::Comparison(ComparisonOperator::GreaterEqual) => b">=",
+        BinaryOperator::Connective(Connective::And) => b"&&",
+        BinaryOperator::Connective(Connective::Or) => b"||",
+    }
+}
 
 /// How a sign is written; nothing for those that are never printed.
 fn sign_text(sign: Sign) -> &'static [u8]
@@ -43,33 +74,14 @@ fn sign_text(sign: Sign) -> &'static [u8]
         Sign::Async => b"@async",
         Sign::Sync => b"@sync",
         Sign::Threads => b"@threads",
-        Sign::ShiftRightZero => b">>>",
-        Sign::ShiftRight => b">>",
-        Sign::ShiftLeft => b"<<",
-        Sign::LessEqual => b"<=",
-        Sign::GreaterEqual => b">=",
-        Sign::Equal => b"==",
-        Sign::NotEqual => b"!=",
-        Sign::AndAlso => b"&&",
-        Sign::OrElse => b"||",
+        Sign::Binary(operator) => operator_text(operator),
         Sign::PlusAssign => b"+=",
         Sign::MinusAssign => b"-=",
         Sign::StarAssign => b"*=",
         Sign::DivideAssign => b"\xC3\xB7=",
         Sign::PercentAssign => b"%=",
-        Sign::Plus => b"+",
-        Sign::Minus => b"-",
-        Sign::Star => b"*",
-        Sign::Divide => b"\xC3\xB7",
-        Sign::Percent => b"%",
-        Sign::Caret => b"^",
-        Sign::And => b"&",
-        Sign::Or => b"|",
-        Sign::Xor => b"\xE2\x8A\xBB",
         Sign::Tilde => b"~",
         Sign::Not => b"!",
-        Sign::Less => b"<",
-        Sign::Greater => b">",
         Sign::Assign => b"=",
         Sign::Question => b"?",
         Sign::Colon => b":",
@@ -88,7 +100,7 @@ fn sign_text(sign: Sign) -> &'static [u8]
 }
 
 /// A byte of a string, as it stands between the quotes.
-fn push_escaped(out: &mut Vec<u8>, byte: u8) -> Result<(), AllocError>
+fn push_escaped(out: &mut Vec<u8>, byte: u8) -> Result<(), OutOfMemory>
     ensures { OnOk result (out.new.items ≡ out.old.items ++ escaped_byte byte) }
 {
     if byte == b'\n' {
@@ -104,7 +116,7 @@ fn push_escaped(out: &mut Vec<u8>, byte: u8) -> Result<(), AllocError>
     Ok(())
 }
 
-fn push_text(out: &mut Vec<u8>, text: &[u8]) -> Result<(), AllocError>
+fn push_text(out: &mut Vec<u8>, text: &[u8]) -> Result<(), OutOfMemory>
     ensures { OnOk result (out.new.items ≡ out.old.items ++ spelling (kind.Text text.now)) }
 {
     out.push(b'"')?;
@@ -115,7 +127,7 @@ fn push_text(out: &mut Vec<u8>, text: &[u8]) -> Result<(), AllocError>
     Ok(())
 }
 
-fn push_kind(out: &mut Vec<u8>, kind: &TokenKind) -> Result<(), AllocError>
+fn push_kind(out: &mut Vec<u8>, kind: &TokenKind) -> Result<(), OutOfMemory>
     ensures { OnOk result (out.new.items ≡ out.old.items ++ spelling kind.now) }
 {
     match kind {
@@ -131,7 +143,11 @@ fn push_kind(out: &mut Vec<u8>, kind: &TokenKind) -> Result<(), AllocError>
 }
 
 /// The text of tokens of these kinds, each followed by one space.
-pub fn spell(alloc: Global, kinds: &[TokenKind]) -> Result<Vec<u8>, AllocError>
+///
+/// # Errors
+///
+/// `OutOfMemory`, and no text.
+pub fn spell(alloc: Global, kinds: &[TokenKind]) -> Result<Vec<u8>, OutOfMemory>
     ensures { IfOk result (λ text. text.items ≡ spelled kinds.now) }
 {
     let mut text = Vec::new(alloc);

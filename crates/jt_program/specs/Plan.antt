@@ -1,9 +1,9 @@
 -- A program as plain data: what a `Code` holds, without the boxes and vectors that hold it.
 use Rattle.std.specs.Prelude.{ℕ, Bool, List}
+use Rattle.jt_syntax.specs.declared.operator.ArithmeticOperator.{ArithmeticOperator}
 use Rattle.jt_syntax.specs.declared.operator.ComparisonOperator.{ComparisonOperator}
 use Rattle.jt_syntax.specs.declared.operator.Connective.{Connective}
 use Rattle.jt_syntax.specs.declared.operator.UnaryOperator.{UnaryOperator}
-use Rattle.jt_program.specs.declared.code.BinaryOperator.{BinaryOperator}
 use Rattle.jt_program.specs.declared.code.Callee.{Callee}
 use Rattle.jt_program.specs.declared.code.Literal.{Literal}
 
@@ -42,7 +42,7 @@ mutual
   -- operands behind a first one, each with its operator
   pub data Operands : Type 0 where
     no_operands : Operands
-    operand : BinaryOperator → Plan → Operands → Operands
+    operand : ArithmeticOperator → Plan → Operands → Operands
 
   pub data Comparisons : Type 0 where
     no_comparisons : Comparisons

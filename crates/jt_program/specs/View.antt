@@ -1,9 +1,9 @@
 -- The plain data that a `Program` stands for.
 use Rattle.std.specs.Prelude.{ℕ, List, [], ◌∷◌, map}
+use Rattle.jt_syntax.specs.declared.operator.ArithmeticOperator.{ArithmeticOperator}
 use Rattle.jt_syntax.specs.declared.operator.ComparisonOperator.{ComparisonOperator}
 use Rattle.jt_program.specs.Plan.{Plan, Plans, Operands, Comparisons, Choices, Pieces, BodyPlan, ProgramPlan}
 use Rattle.jt_program.specs.Plan as plan
-use Rattle.jt_program.specs.declared.code.BinaryOperator.{BinaryOperator}
 use Rattle.jt_program.specs.declared.code.Code.{Code}
 use Rattle.jt_program.specs.declared.code.Code.TheOpen.{Code-F, Arm-F, Piece-F}
 use Rattle.jt_program.specs.declared.code.Code.TheFolds.{fold-Code, fold-Arm, fold-Piece}
@@ -18,7 +18,7 @@ abbrev pub plans_of : List Plan → Plans
 plans_of [] = plan.no_plans
 plans_of (p ∷ ps) = plan.plan p (plans_of ps)
 
-abbrev pub operands_of : List (BinaryOperator × Plan) → Operands
+abbrev pub operands_of : List (ArithmeticOperator × Plan) → Operands
 operands_of [] = plan.no_operands
 operands_of (p ∷ ps) = plan.operand p.0 p.1 (operands_of ps)
 

@@ -1,6 +1,6 @@
 //! What a task does, as a tree in which variables, constants and functions stand by number.
 
-use jt_syntax::{ComparisonOperator, Connective, UnaryOperator};
+use jt_syntax::{ArithmeticOperator, ComparisonOperator, Connective, UnaryOperator};
 use sqlite_items::{Boxed, Items};
 
 /// A value that is written in a script.
@@ -9,26 +9,6 @@ pub enum Literal {
     Int(i64),
     Flag(bool),
     Nothing,
-}
-
-/// An operator between two operands, both of which are evaluated.
-#[derive(Clone, Copy, Debug, PartialEq, Eq)]
-pub enum BinaryOperator {
-    Add,
-    Subtract,
-    Multiply,
-    /// The quotient, truncated towards zero.
-    Divide,
-    /// The remainder, with the sign of the first operand.
-    Remainder,
-    Power,
-    And,
-    Or,
-    Xor,
-    ShiftLeft,
-    ShiftRight,
-    /// The shift to the right that brings in zeros.
-    ShiftRightZero,
 }
 
 /// A function of the language.
@@ -82,7 +62,7 @@ pub enum Code {
     Define(usize, Boxed<Code>),
     Unary(UnaryOperator, Boxed<Code>),
     /// Operators one after another, each on the value so far and its operand.
-    Operation(Boxed<Code>, Items<(BinaryOperator, Code)>),
+    Operation(Boxed<Code>, Items<(ArithmeticOperator, Code)>),
     /// Comparisons of neighbours, up to the first that doesn't hold.
     Comparison(Boxed<Code>, Items<(ComparisonOperator, Code)>),
     /// Operands up to the first that decides.

@@ -5,5 +5,5 @@
 mod code;
 mod program;
 
-pub use code::{Arm, BinaryOperator, BuiltIn, Callee, Code, Fork, Literal, Piece};
+pub use code::{Arm, BuiltIn, Callee, Code, Fork, Literal, Piece};
 pub use program::{Body, Program};

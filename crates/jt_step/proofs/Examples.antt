@@ -15,8 +15,8 @@ use Rattle.jt_base.specs.declared.operation.Reply.{Reply}
 use Rattle.jt_base.specs.declared.operation.Reply.TheVariants as reply
 use Rattle.jt_base.specs.Coming.{Next, Needs, Spawns, Over}
 use Rattle.jt_num.specs.Wrapping.{wrapped}
+use Rattle.jt_syntax.specs.declared.operator.ArithmeticOperator.TheVariants as arithmetic
 use Rattle.jt_syntax.specs.declared.operator.ComparisonOperator.TheVariants as comparison
-use Rattle.jt_program.specs.declared.code.BinaryOperator.TheVariants as binary
 use Rattle.jt_program.specs.declared.code.BuiltIn.TheVariants as built_in
 use Rattle.jt_program.specs.declared.code.Callee.TheVariants as callee
 use Rattle.jt_program.specs.declared.code.Literal.TheVariants as literal
@@ -39,10 +39,10 @@ abbrev nothing : Plan
 nothing = plan.literal literal.Nothing
 
 abbrev sum : Plan → Plan → Plan
-sum a b = plan.operation a (plan.operand binary.Add b plan.no_operands)
+sum a b = plan.operation a (plan.operand arithmetic.Add b plan.no_operands)
 
 abbrev difference : Plan → Plan → Plan
-difference a b = plan.operation a (plan.operand binary.Subtract b plan.no_operands)
+difference a b = plan.operation a (plan.operand arithmetic.Subtract b plan.no_operands)
 
 abbrev equals : Plan → Plan → Plan
 equals a b = plan.comparison a (plan.compared comparison.Equal b plan.no_comparisons)

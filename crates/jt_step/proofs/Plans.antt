@@ -1,9 +1,9 @@
 -- The plain data of trees, form by form.
 use Rattle.std.proofs.Common.{◌≡◌, ℕ, List, rules}
+use Rattle.jt_syntax.specs.declared.operator.ArithmeticOperator.{ArithmeticOperator}
 use Rattle.jt_syntax.specs.declared.operator.ComparisonOperator.{ComparisonOperator}
 use Rattle.jt_syntax.specs.declared.operator.Connective.{Connective}
 use Rattle.jt_syntax.specs.declared.operator.UnaryOperator.{UnaryOperator}
-use Rattle.jt_program.specs.declared.code.BinaryOperator.{BinaryOperator}
 use Rattle.jt_program.specs.declared.code.Callee.{Callee}
 use Rattle.jt_program.specs.declared.code.Literal.{Literal}
 use Rattle.jt_program.specs.declared.code.Code.{Code, the_lemmas}
@@ -34,7 +34,7 @@ plan-Define k e = search (rules, the_lemmas)
 pub plan-Unary : (o : UnaryOperator) (e : Code) → plan_of (code.Unary o e) ≡ plan.unary o (plan_of e)
 plan-Unary o e = search (rules, the_lemmas)
 
-pub plan-Operation : (e : Code) (es : List (BinaryOperator × Code)) → plan_of (code.Operation e es) ≡ plan.operation (plan_of e) (operands_in es)
+pub plan-Operation : (e : Code) (es : List (ArithmeticOperator × Code)) → plan_of (code.Operation e es) ≡ plan.operation (plan_of e) (operands_in es)
 plan-Operation e es = search (rules, the_lemmas)
 
 pub plan-Comparison : (e : Code) (es : List (ComparisonOperator × Code)) → plan_of (code.Comparison e es) ≡ plan.comparison (plan_of e) (comparisons_in es)

@@ -4,10 +4,10 @@ use Rattle.std.specs.Prelude.{◌≡◌, ℕ, Bool, List, refl}
 use mathlib.Core.Path.{sym, ap, subst}
 use base.Stored.{Gv, gnil, gnum, gcons}
 use Rattle.std.specs.Coded.{Coded, code_by, coded×, coded_ℕ, coded_list}
+use Rattle.jt_syntax.specs.declared.operator.ArithmeticOperator.{ArithmeticOperator}
 use Rattle.jt_syntax.specs.declared.operator.ComparisonOperator.{ComparisonOperator}
 use Rattle.jt_syntax.specs.declared.operator.Connective.{Connective}
 use Rattle.jt_syntax.specs.declared.operator.UnaryOperator.{UnaryOperator}
-use Rattle.jt_program.specs.declared.code.BinaryOperator.{BinaryOperator}
 use Rattle.jt_program.specs.declared.code.Callee.{Callee}
 use Rattle.jt_program.specs.declared.code.Literal.{Literal}
 use Rattle.jt_program.specs.Plan.{Plan, Plans, Operands, Comparisons, Choices, Pieces, BodyPlan, ProgramPlan}
@@ -75,7 +75,7 @@ pub data Label : Type 0 where
   break_label : Label
   continue_label : Label
   plan_label : Label
-  operand_label : BinaryOperator → Label
+  operand_label : ArithmeticOperator → Label
   compared_label : ComparisonOperator → Label
   choice_label : Label
   value_piece_label : Label

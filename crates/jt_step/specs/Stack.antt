@@ -13,7 +13,7 @@ use Rattle.jt_base.specs.Jobs.{note_reply}
 use Rattle.jt_program.specs.declared.code.Code.{Code}
 use Rattle.jt_program.specs.declared.code.Arm.{Arm}
 use Rattle.jt_program.specs.declared.code.Piece.{Piece}
-use Rattle.jt_program.specs.declared.code.BinaryOperator.{BinaryOperator}
+use Rattle.jt_syntax.specs.declared.operator.ArithmeticOperator.{ArithmeticOperator}
 use Rattle.jt_syntax.specs.declared.operator.ComparisonOperator.{ComparisonOperator}
 use Rattle.jt_program.specs.Plan.{Plan, Plans, Operands, Comparisons, Choices, Pieces, BodyPlan, ProgramPlan}
 use Rattle.jt_program.specs.Plan as plan
@@ -57,7 +57,7 @@ exits exit.Value v s = Gave v s
 exits exit.Return v s = Returned v s
 
 -- the plain data of what stands in a slice
-abbrev pub operands_in : List (BinaryOperator × Code) → Operands
+abbrev pub operands_in : List (ArithmeticOperator × Code) → Operands
 operands_in es = operands_of (map operand_plan es)
 
 abbrev pub comparisons_in : List (ComparisonOperator × Code) → Comparisons

@@ -13,14 +13,14 @@ use Rattle.jt_num.specs.Division.{quotient, remainder, modulus}
 use Rattle.jt_num.specs.Powers.{power}
 use Rattle.jt_num.specs.Shifts.{left_shift, right_shift, unsigned_right_shift}
 use Rattle.jt_num.specs.Bits.{bits_and, bits_or, bits_xor, complement}
+use Rattle.jt_syntax.specs.declared.operator.ArithmeticOperator.{ArithmeticOperator}
+use Rattle.jt_syntax.specs.declared.operator.ArithmeticOperator.TheVariants as arithmetic
 use Rattle.jt_syntax.specs.declared.operator.ComparisonOperator.{ComparisonOperator}
 use Rattle.jt_syntax.specs.declared.operator.ComparisonOperator.TheVariants as comparison
 use Rattle.jt_syntax.specs.declared.operator.UnaryOperator.{UnaryOperator}
 use Rattle.jt_syntax.specs.declared.operator.UnaryOperator.TheVariants as unary
 use Rattle.jt_program.specs.declared.code.Literal.{Literal}
 use Rattle.jt_program.specs.declared.code.Literal.TheVariants as literal
-use Rattle.jt_program.specs.declared.code.BinaryOperator.{BinaryOperator}
-use Rattle.jt_program.specs.declared.code.BinaryOperator.TheVariants as binary
 use Rattle.jt_program.specs.declared.code.BuiltIn.{BuiltIn}
 use Rattle.jt_program.specs.declared.code.BuiltIn.TheVariants as built_in
 
@@ -58,19 +58,19 @@ of_bits f g v w = Err fault.Method
 abbrev pub differ : Bool → Bool → Bool
 differ a b = (a && not b) || (not a && b)
 
-abbrev pub operated : BinaryOperator → Value → Value → Valued
-operated binary.Add v w = of_numbers (λ a b. Ok (Int (wrapped (a +ℤ b)))) v w
-operated binary.Subtract v w = of_numbers (λ a b. Ok (Int (wrapped (a -ℤ b)))) v w
-operated binary.Multiply v w = of_numbers (λ a b. Ok (Int (wrapped (a *ℤ b)))) v w
-operated binary.Divide v w = of_numbers (λ a b. number_or (quotient a b)) v w
-operated binary.Remainder v w = of_numbers (λ a b. number_or (remainder a b)) v w
-operated binary.Power v w = of_numbers (λ a b. number_or (power a b)) v w
-operated binary.And v w = of_bits bits_and (λ a b. a && b) v w
-operated binary.Or v w = of_bits bits_or (λ a b. a || b) v w
-operated binary.Xor v w = of_bits bits_xor differ v w
-operated binary.ShiftLeft v w = of_numbers (λ a b. Ok (Int (left_shift a b))) v w
-operated binary.ShiftRight v w = of_numbers (λ a b. Ok (Int (right_shift a b))) v w
-operated binary.ShiftRightZero v w = of_numbers (λ a b. Ok (Int (unsigned_right_shift a b))) v w
+abbrev pub operated : ArithmeticOperator → Value → Value → Valued
+operated arithmetic.Add v w = of_numbers (λ a b. Ok (Int (wrapped (a +ℤ b)))) v w
+operated arithmetic.Subtract v w = of_numbers (λ a b. Ok (Int (wrapped (a -ℤ b)))) v w
+operated arithmetic.Multiply v w = of_numbers (λ a b. Ok (Int (wrapped (a *ℤ b)))) v w
+operated arithmetic.Divide v w = of_numbers (λ a b. number_or (quotient a b)) v w
+operated arithmetic.Remainder v w = of_numbers (λ a b. number_or (remainder a b)) v w
+operated arithmetic.Power v w = of_numbers (λ a b. number_or (power a b)) v w
+operated arithmetic.And v w = of_bits bits_and (λ a b. a && b) v w
+operated arithmetic.Or v w = of_bits bits_or (λ a b. a || b) v w
+operated arithmetic.Xor v w = of_bits bits_xor differ v w
+operated arithmetic.ShiftLeft v w = of_numbers (λ a b. Ok (Int (left_shift a b))) v w
+operated arithmetic.ShiftRight v w = of_numbers (λ a b. Ok (Int (right_shift a b))) v w
+operated arithmetic.ShiftRightZero v w = of_numbers (λ a b. Ok (Int (unsigned_right_shift a b))) v w
 
 abbrev pub unary_of : UnaryOperator → Value → Valued
 unary_of unary.Minus (Int a) = Ok (Int (wrapped (neg_ℤ a)))

@@ -2,8 +2,8 @@
 
 use crate::line::Line;
 use jt_base::{Fault, Path, Value};
-use jt_program::{Arm, BinaryOperator, Callee, Code, Piece};
-use jt_syntax::{ComparisonOperator, Connective, UnaryOperator};
+use jt_program::{Arm, Callee, Code, Piece};
+use jt_syntax::{ArithmeticOperator, ComparisonOperator, Connective, UnaryOperator};
 use sqlite_items::Items;
 
 /// A loop whose turns go on. Its own variables are in the slots from the first number on, as many as
@@ -42,9 +42,9 @@ pub enum Frame<'p> {
     Define(usize),
     Unary(UnaryOperator),
     /// The operands behind the first one.
-    Operands(&'p [(BinaryOperator, Code)]),
+    Operands(&'p [(ArithmeticOperator, Code)]),
     /// An operator, the value so far, and the operands behind the one that is evaluated.
-    Operand(BinaryOperator, Value, &'p [(BinaryOperator, Code)]),
+    Operand(ArithmeticOperator, Value, &'p [(ArithmeticOperator, Code)]),
     /// The comparisons behind the first operand.
     Comparisons(&'p [(ComparisonOperator, Code)]),
     /// A comparison, its first operand, and the comparisons behind it.

@@ -15,8 +15,8 @@ use crate::row::valued;
 use crate::value::{apply_unary, compare, operate};
 use crate::variables::assign;
 use jt_base::{Fault, OutOfMemory, Value};
-use jt_program::{Arm, BinaryOperator, Code};
-use jt_syntax::ComparisonOperator;
+use jt_program::{Arm, Code};
+use jt_syntax::{ArithmeticOperator, ComparisonOperator};
 use std::alloc::Global;
 
 impl<'p> Machine<'p> {
@@ -88,10 +88,10 @@ impl<'p> Machine<'p> {
     /// Both operands of an operator have their values.
     fn give_operand(
         &mut self,
-        operator: BinaryOperator,
+        operator: ArithmeticOperator,
         v: Value,
         w: Value,
-        es: &'p [(BinaryOperator, Code)],
+        es: &'p [(ArithmeticOperator, Code)],
     ) -> Result<Mode<'p>, OutOfMemory>
         ensures { IfOk result (λ m. (program : ProgramPlan) → Hands program self.old (Frame.Operand operator v es.entry) (Gave w) self.new m) }
     {

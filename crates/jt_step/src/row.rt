@@ -12,8 +12,8 @@ use crate::frame::Frame;
 use crate::machine::Machine;
 use crate::mode::Mode;
 use jt_base::{Fault, OutOfMemory, Value};
-use jt_program::{Arm, BinaryOperator, Callee, Code};
-use jt_syntax::{ComparisonOperator, Connective};
+use jt_program::{Arm, Callee, Code};
+use jt_syntax::{ArithmeticOperator, ComparisonOperator, Connective};
 use sqlite_items::Items;
 use std::alloc::Global;
 
@@ -35,7 +35,7 @@ impl<'p> Machine<'p> {
     pub(crate) fn next_operand(
         &mut self,
         v: Value,
-        es: &'p [(BinaryOperator, Code)],
+        es: &'p [(ArithmeticOperator, Code)],
     ) -> Result<Mode<'p>, OutOfMemory>
         ensures { IfOk result (λ m. (program : ProgramPlan) → Does program self.old (run_operands program (go program) v (operands_in es.now)) (operands_weight (operands_in es.now) + 1) self.new m) }
     {

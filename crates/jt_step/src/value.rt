@@ -9,8 +9,8 @@ mod comparisons;
 pub(crate) use comparisons::compare;
 use jt_base::{Fault, OutOfMemory, Text, Value};
 use jt_num::NumFault;
-use jt_program::{BinaryOperator, BuiltIn, Literal};
-use jt_syntax::UnaryOperator;
+use jt_program::{BuiltIn, Literal};
+use jt_syntax::{ArithmeticOperator, UnaryOperator};
 use std::alloc::Global;
 
 /// The value of a literal.
@@ -26,7 +26,11 @@ pub(crate) fn literal_value(literal: Literal) -> Value
 
 /// What an operator makes of its two operands, or why it makes nothing: `Divide` and `Domain` as in
 /// arithmetic, `Method` where it doesn't take them.
-pub(crate) fn operate(operator: BinaryOperator, left: &Value, right: &Value) -> Result<Value, Fault>
+pub(crate) fn operate(
+    operator: ArithmeticOperator,
+    left: &Value,
+    right: &Value,
+) -> Result<Value, Fault>
     ensures { result ≡ spec.operated operator left.now right.now }
 {
     match left {
@@ -42,32 +46,32 @@ pub(crate) fn operate(operator: BinaryOperator, left: &Value, right: &Value) -> 
     }
 }
 
-fn operate_on_numbers(operator: BinaryOperator, a: i64, b: i64) -> Result<Value, Fault>
+fn operate_on_numbers(operator: ArithmeticOperator, a: i64, b: i64) -> Result<Value, Fault>
     ensures { result ≡ spec.operated operator (Int a) (Int b) }
 {
     match operator {
-        BinaryOperator::Add => Ok(Value::Int(jt_num::add(a, b))),
-        BinaryOperator::Subtract => Ok(Value::Int(jt_num::sub(a, b))),
-        BinaryOperator::Multiply => Ok(Value::Int(jt_num::mul(a, b))),
-        BinaryOperator::Divide => number_or(jt_num::div(a, b)),
-        BinaryOperator::Remainder => number_or(jt_num::rem(a, b)),
-        BinaryOperator::Power => number_or(jt_num::pow(a, b)),
-        BinaryOperator::And => Ok(Value::Int(jt_num::and(a, b))),
-        BinaryOperator::Or => Ok(Value::Int(jt_num::or(a, b))),
-        BinaryOperator::Xor => Ok(Value::Int(jt_num::xor(a, b))),
-        BinaryOperator::ShiftLeft => Ok(Value::Int(jt_num::shl(a, b))),
-        BinaryOperator::ShiftRight => Ok(Value::Int(jt_num::shr(a, b))),
-        BinaryOperator::ShiftRightZero => Ok(Value::Int(jt_num::ushr(a, b))),
+        ArithmeticOperator::Add => Ok(Value::Int(jt_num::add(a, b))),
+        ArithmeticOperator::Subtract => Ok(Value::Int(jt_num::sub(a, b))),
+        ArithmeticOperator::Multiply => Ok(Value::Int(jt_num::mul(a, b))),
+        ArithmeticOperator::Divide => number_or(jt_num::div(a, b)),
+        ArithmeticOperator::Remainder => number_or(jt_num::rem(a, b)),
+        ArithmeticOperator::Power => number_or(jt_num::pow(a, b)),
+        ArithmeticOperator::And => Ok(Value::Int(jt_num::and(a, b))),
+        ArithmeticOperator::Or => Ok(Value::Int(jt_num::or(a, b))),
+        ArithmeticOperator::Xor => Ok(Value::Int(jt_num::xor(a, b))),
+        ArithmeticOperator::ShiftLeft => Ok(Value::Int(jt_num::shl(a, b))),
+        ArithmeticOperator::ShiftRight => Ok(Value::Int(jt_num::shr(a, b))),
+        ArithmeticOperator::ShiftRightZero => Ok(Value::Int(jt_num::ushr(a, b))),
     }
 }
 
-fn operate_on_flags(operator: BinaryOperator, a: bool, b: bool) -> Result<Value, Fault>
+fn operate_on_flags(operator: ArithmeticOperator, a: bool, b: bool) -> Result<Value, Fault>
     ensures { result ≡ spec.operated operator (Flag a) (Flag b) }
 {
     match operator {
-        BinaryOperator::And => Ok(Value::Flag(a && b)),
-        BinaryOperator::Or => Ok(Value::Flag(a || b)),
-        BinaryOperator::Xor => Ok(Value::Flag(a != b)),
+        ArithmeticOperator::And => Ok(Value::Flag(a && b)),
+        ArithmeticOperator::Or => Ok(Value::Flag(a || b)),
+        ArithmeticOperator::Xor => Ok(Value::Flag(a != b)),
         _ => Err(Fault::Method),
     }
 }

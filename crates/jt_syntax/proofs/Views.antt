@@ -2,13 +2,10 @@
 use Rattle.std.proofs.Common.{◌≡◌, ℕ, List, Option, Some, None, rules}
 use Rattle.std.specs.Prelude.{map}
 use Rattle.jt_syntax.specs.Tree as tree
-use Rattle.jt_syntax.specs.View.{view, views, item_view, item_views, term_view, terms_of, operands_of, stmt_view, stmt_views, arms_of, arm_view, jump_view, connective_class, connective_sign, shift_sign, product_sign, sum_sign, comparison_sign}
-use Rattle.jt_syntax.specs.declared.operator.ShiftOperator.{ShiftOperator}
-use Rattle.jt_syntax.specs.declared.operator.ProductOperator.{ProductOperator}
-use Rattle.jt_syntax.specs.declared.operator.SumOperator.{SumOperator}
-use Rattle.jt_syntax.specs.declared.operator.ComparisonOperator.{ComparisonOperator}
+use Rattle.jt_syntax.specs.View.{view, views, item_view, item_views, term_view, terms_of, stmt_view, stmt_views, arms_of, arm_view, jump_view}
+use Rattle.jt_syntax.specs.declared.operator.BinaryOperator.{BinaryOperator}
+use Rattle.jt_syntax.specs.declared.operator.Class.{Class}
 use Rattle.jt_syntax.specs.declared.operator.Connective.{Connective}
-use Rattle.jt_syntax.specs.declared.token.Sign.TheVariants as sign
 use Rattle.jt_syntax.specs.declared.script.Identifier.{Identifier}
 use Rattle.jt_syntax.specs.declared.script.Schedule.{Schedule}
 use Rattle.jt_syntax.specs.declared.script.Expr.{Expr, the_lemmas}
@@ -35,23 +32,8 @@ view-Text t = search (rules, the_lemmas)
 pub view-Value : (e : Expr) → item_view (item.Value e) ≡ view e
 view-Value e = search (rules, the_lemmas)
 
-pub view-Shift : (e : Expr) (es : List (ShiftOperator × Expr)) → view (expr.Shift e es) ≡ tree.chain tree.shift (view e) (terms_of shift_sign (map term_view es))
-view-Shift e es = search (rules, the_lemmas)
-
-pub view-Product : (e : Expr) (es : List (ProductOperator × Expr)) → view (expr.Product e es) ≡ tree.chain tree.product (view e) (terms_of product_sign (map term_view es))
-view-Product e es = search (rules, the_lemmas)
-
-pub view-Sum : (e : Expr) (es : List (SumOperator × Expr)) → view (expr.Sum e es) ≡ tree.chain tree.sum (view e) (terms_of sum_sign (map term_view es))
-view-Sum e es = search (rules, the_lemmas)
-
-pub view-Comparison : (e : Expr) (es : List (ComparisonOperator × Expr)) → view (expr.Comparison e es) ≡ tree.chain tree.comparison (view e) (terms_of comparison_sign (map term_view es))
-view-Comparison e es = search (rules, the_lemmas)
-
-pub view-And : (e : Expr) (es : List Expr) → view (expr.And e es) ≡ tree.chain tree.and (view e) (operands_of sign.AndAlso (map view es))
-view-And e es = search (rules, the_lemmas)
-
-pub view-Or : (e : Expr) (es : List Expr) → view (expr.Or e es) ≡ tree.chain tree.or (view e) (operands_of sign.OrElse (map view es))
-view-Or e es = search (rules, the_lemmas)
+pub view-Chain : (k : Class) (e : Expr) (es : List (BinaryOperator × Expr)) → view (expr.Chain k e es) ≡ tree.chain k (view e) (terms_of (map term_view es))
+view-Chain k e es = search (rules, the_lemmas)
 
 pub view-Block : (ss : List Stmt) → view (expr.Block ss) ≡ tree.block (stmt_views ss)
 view-Block ss = search (rules, the_lemmas)
@@ -74,5 +56,5 @@ view-ForEach i e ss = search (rules, the_lemmas)
 pub view-Threads : (at : ℕ) (s : Option Schedule) (i : Identifier) (a b : Expr) (ss : List Stmt) → view (expr.Threads at s i a b ss) ≡ tree.threads at s i (view a) (view b) (stmt_views ss)
 view-Threads at s i a b ss = search (rules, the_lemmas)
 
-pub view-Guard : (c : Connective) (e : Expr) (es : List Expr) (j : Jump) → stmt_view (stmt.Guard c e es j) ≡ tree.guard (connective_class c) (view e) (operands_of (connective_sign c) (map view es)) (jump_view j)
+pub view-Guard : (c : Connective) (e : Expr) (es : List (BinaryOperator × Expr)) (j : Jump) → stmt_view (stmt.Guard c e es j) ≡ tree.guard c (view e) (terms_of (map term_view es)) (jump_view j)
 view-Guard c e es j = search (rules, the_lemmas)

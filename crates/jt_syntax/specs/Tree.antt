@@ -1,20 +1,13 @@
 -- Trees as plain data: what a `Script` holds, without the boxes and vectors that hold it.
 use Rattle.std.specs.Prelude.{ℕ, Bool, List, Option}
 use Rattle.jt_syntax.specs.declared.operator.AssignmentOperator.{AssignmentOperator}
+use Rattle.jt_syntax.specs.declared.operator.BinaryOperator.{BinaryOperator}
+use Rattle.jt_syntax.specs.declared.operator.Class.{Class}
+use Rattle.jt_syntax.specs.declared.operator.Connective.{Connective}
 use Rattle.jt_syntax.specs.declared.operator.UnaryOperator.{UnaryOperator}
 use Rattle.jt_syntax.specs.declared.script.Identifier.{Identifier}
 use Rattle.jt_syntax.specs.declared.script.Pool.{Pool}
 use Rattle.jt_syntax.specs.declared.script.Schedule.{Schedule}
-use Rattle.jt_syntax.specs.declared.token.Sign.{Sign}
-
--- the classes of binary operators whose chains are one node each, from the loosest to the tightest
-pub data Class : Type 0 where
-  or : Class
-  and : Class
-  comparison : Class
-  sum : Class
-  product : Class
-  shift : Class
 
 mutual
   -- an expression, or a string among the items of `println`
@@ -55,10 +48,10 @@ mutual
     no_trees : Trees
     tree : Tree → Trees → Trees
 
-  -- the operands of a chain behind its first one, each with its operator's sign
+  -- the operands of a chain behind its first one, each with its operator
   pub data Terms : Type 0 where
     no_terms : Terms
-    term : Sign → Tree → Terms → Terms
+    term : BinaryOperator → Tree → Terms → Terms
 
   -- what stands behind the first arm of an `if`
   pub data Arms : Type 0 where
@@ -78,7 +71,7 @@ mutual
     assign : Identifier → AssignmentOperator → Tree → Step
     store : Identifier → Tree → Step
     jump : Leap → Step
-    guard : Class → Tree → Terms → Leap → Step
+    guard : Connective → Tree → Terms → Leap → Step
     value : Tree → Step
 
   pub data Steps : Type 0 where

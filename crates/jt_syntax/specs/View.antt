@@ -1,19 +1,14 @@
 -- The plain data that a `Script` stands for.
 use Rattle.std.specs.Prelude.{ℕ, List, [], ◌∷◌, map, Option, Some, None}
-use Rattle.jt_syntax.specs.Tree.{Tree, Trees, Terms, Arms, Leap, Step, Steps, Form, TopTree, Class}
+use Rattle.jt_syntax.specs.Tree.{Tree, Trees, Terms, Arms, Leap, Step, Steps, Form, TopTree}
 use Rattle.jt_syntax.specs.Tree as tree
-use Rattle.jt_syntax.specs.declared.operator.ShiftOperator.{ShiftOperator}
-use Rattle.jt_syntax.specs.declared.operator.ShiftOperator.TheVariants as shift_operator
-use Rattle.jt_syntax.specs.declared.operator.ProductOperator.{ProductOperator}
-use Rattle.jt_syntax.specs.declared.operator.ProductOperator.TheVariants as product_operator
-use Rattle.jt_syntax.specs.declared.operator.SumOperator.{SumOperator}
-use Rattle.jt_syntax.specs.declared.operator.SumOperator.TheVariants as sum_operator
-use Rattle.jt_syntax.specs.declared.operator.ComparisonOperator.{ComparisonOperator}
-use Rattle.jt_syntax.specs.declared.operator.ComparisonOperator.TheVariants as comparison_operator
+use Rattle.jt_syntax.specs.declared.operator.ArithmeticOperator.TheVariants as arithmetic
+use Rattle.jt_syntax.specs.declared.operator.BinaryOperator.{BinaryOperator}
+use Rattle.jt_syntax.specs.declared.operator.BinaryOperator.TheVariants as binary
+use Rattle.jt_syntax.specs.declared.operator.Class.{Class}
+use Rattle.jt_syntax.specs.declared.operator.Class.TheVariants as class
 use Rattle.jt_syntax.specs.declared.operator.Connective.{Connective}
 use Rattle.jt_syntax.specs.declared.operator.Connective.TheVariants as connective
-use Rattle.jt_syntax.specs.declared.token.Sign.{Sign}
-use Rattle.jt_syntax.specs.declared.token.Sign.TheVariants as sign
 use Rattle.jt_syntax.specs.declared.script.Expr.{Expr}
 use Rattle.jt_syntax.specs.declared.script.Expr.TheOpen.{Expr-F, Item-F, Arm-F, Jump-F, Stmt-F}
 use Rattle.jt_syntax.specs.declared.script.Expr.TheFolds.{fold-Expr, fold-Item, fold-Arm, fold-Jump, fold-Stmt}
@@ -26,40 +21,28 @@ use Rattle.jt_syntax.specs.declared.script.TopForm.{TopForm}
 use Rattle.jt_syntax.specs.declared.script.TopForm.TheVariants as form
 use Rattle.jt_syntax.specs.declared.script.Script.{Script}
 
--- ---- the signs of operators
-
-abbrev pub shift_sign : ShiftOperator → Sign
-shift_sign shift_operator.Left = sign.ShiftLeft
-shift_sign shift_operator.Right = sign.ShiftRight
-shift_sign shift_operator.RightZero = sign.ShiftRightZero
-
-abbrev pub product_sign : ProductOperator → Sign
-product_sign product_operator.Times = sign.Star
-product_sign product_operator.Divide = sign.Divide
-product_sign product_operator.Remainder = sign.Percent
-product_sign product_operator.And = sign.And
-
-abbrev pub sum_sign : SumOperator → Sign
-sum_sign sum_operator.Plus = sign.Plus
-sum_sign sum_operator.Minus = sign.Minus
-sum_sign sum_operator.Or = sign.Or
-sum_sign sum_operator.Xor = sign.Xor
-
-abbrev pub comparison_sign : ComparisonOperator → Sign
-comparison_sign comparison_operator.Equal = sign.Equal
-comparison_sign comparison_operator.NotEqual = sign.NotEqual
-comparison_sign comparison_operator.Less = sign.Less
-comparison_sign comparison_operator.LessEqual = sign.LessEqual
-comparison_sign comparison_operator.Greater = sign.Greater
-comparison_sign comparison_operator.GreaterEqual = sign.GreaterEqual
-
-abbrev pub connective_sign : Connective → Sign
-connective_sign connective.And = sign.AndAlso
-connective_sign connective.Or = sign.OrElse
+-- ---- the classes of operators
 
 abbrev pub connective_class : Connective → Class
-connective_class connective.And = tree.and
-connective_class connective.Or = tree.or
+connective_class connective.And = class.And
+connective_class connective.Or = class.Or
+
+-- the class of an operator; `^` is of none
+abbrev pub operator_class : BinaryOperator → Option Class
+operator_class (binary.Arithmetic arithmetic.Add) = Some class.Sum
+operator_class (binary.Arithmetic arithmetic.Subtract) = Some class.Sum
+operator_class (binary.Arithmetic arithmetic.Or) = Some class.Sum
+operator_class (binary.Arithmetic arithmetic.Xor) = Some class.Sum
+operator_class (binary.Arithmetic arithmetic.Multiply) = Some class.Product
+operator_class (binary.Arithmetic arithmetic.Divide) = Some class.Product
+operator_class (binary.Arithmetic arithmetic.Remainder) = Some class.Product
+operator_class (binary.Arithmetic arithmetic.And) = Some class.Product
+operator_class (binary.Arithmetic arithmetic.ShiftLeft) = Some class.Shift
+operator_class (binary.Arithmetic arithmetic.ShiftRight) = Some class.Shift
+operator_class (binary.Arithmetic arithmetic.ShiftRightZero) = Some class.Shift
+operator_class (binary.Arithmetic arithmetic.Power) = None
+operator_class (binary.Comparison o) = Some class.Comparison
+operator_class (binary.Connective o) = Some (connective_class o)
 
 -- ---- lists
 
@@ -67,15 +50,10 @@ abbrev pub trees_of : List Tree → Trees
 trees_of [] = tree.no_trees
 trees_of (t ∷ ts) = tree.tree t (trees_of ts)
 
--- operands, each behind the sign of its operator
-abbrev pub terms_of : {O : Type 0} → (O → Sign) → List (O × Tree) → Terms
-terms_of sign_of [] = tree.no_terms
-terms_of sign_of (t ∷ ts) = tree.term (sign_of t.0) t.1 (terms_of sign_of ts)
-
--- operands, each behind the same sign
-abbrev pub operands_of : Sign → List Tree → Terms
-operands_of s [] = tree.no_terms
-operands_of s (t ∷ ts) = tree.term s t (operands_of s ts)
+-- operands, each behind its operator
+abbrev pub terms_of : List (BinaryOperator × Tree) → Terms
+terms_of [] = tree.no_terms
+terms_of (t ∷ ts) = tree.term t.0 t.1 (terms_of ts)
 
 abbrev pub steps_of : List Step → Steps
 steps_of [] = tree.no_steps
@@ -118,12 +96,7 @@ expr_layer (Expr-F.Notify e b) = tree.notify e b
 expr_layer (Expr-F.Read i) = tree.read i
 expr_layer (Expr-F.Power a b) = tree.power a b
 expr_layer (Expr-F.Unary o e) = tree.unary o e
-expr_layer (Expr-F.Shift e es) = tree.chain tree.shift e (terms_of shift_sign es)
-expr_layer (Expr-F.Product e es) = tree.chain tree.product e (terms_of product_sign es)
-expr_layer (Expr-F.Sum e es) = tree.chain tree.sum e (terms_of sum_sign es)
-expr_layer (Expr-F.Comparison e es) = tree.chain tree.comparison e (terms_of comparison_sign es)
-expr_layer (Expr-F.And e es) = tree.chain tree.and e (operands_of sign.AndAlso es)
-expr_layer (Expr-F.Or e es) = tree.chain tree.or e (operands_of sign.OrElse es)
+expr_layer (Expr-F.Chain k e es) = tree.chain k e (terms_of es)
 expr_layer (Expr-F.Conditional c a b) = tree.conditional c a b
 expr_layer (Expr-F.Block ss) = tree.block (steps_of ss)
 expr_layer (Expr-F.If c ss arms last) = tree.branches c (steps_of ss) (arms_of arms (last_arm last))
@@ -151,7 +124,7 @@ abbrev pub stmt_layer : Stmt-F Tree Tree Leap Step (Tree × Steps) → Step
 stmt_layer (Stmt-F.Assign i o e) = tree.assign i o e
 stmt_layer (Stmt-F.Store i e) = tree.store i e
 stmt_layer (Stmt-F.Jump j) = tree.jump j
-stmt_layer (Stmt-F.Guard c e es j) = tree.guard (connective_class c) e (operands_of (connective_sign c) es) j
+stmt_layer (Stmt-F.Guard c e es j) = tree.guard c e (terms_of es) j
 stmt_layer (Stmt-F.Expression e) = tree.value e
 
 -- ---- whole trees
@@ -181,7 +154,7 @@ abbrev pub item_views : List Item → Trees
 item_views es = trees_of (map item_view es)
 
 -- an operand behind its operator
-abbrev pub term_view : {O : Type 0} → O × Expr → O × Tree
+abbrev pub term_view : BinaryOperator × Expr → BinaryOperator × Tree
 term_view t = (t.0, view t.1)
 
 abbrev pub stmt_views : List Stmt → Steps

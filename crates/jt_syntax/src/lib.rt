@@ -7,8 +7,8 @@ mod script;
 mod token;
 
 pub use operator::{
-    AssignmentOperator, ComparisonOperator, Connective, ProductOperator, ShiftOperator,
-    SumOperator, UnaryOperator,
+    ArithmeticOperator, AssignmentOperator, BinaryOperator, Class, ComparisonOperator, Connective,
+    UnaryOperator,
 };
 pub use script::{Arm, Expr, Identifier, Item, Jump, Pool, Schedule, Script, Stmt, Top, TopForm};
 pub use token::{Sign, Token, TokenKind};

@@ -1,10 +1,10 @@
 //! A script, its statements and its expressions.
 
-use crate::operator::{
-    AssignmentOperator, ComparisonOperator, Connective, ProductOperator, ShiftOperator,
-    SumOperator, UnaryOperator,
-};
+ghost use Rattle.std.specs.Prelude.{◌≡◌, IfOk};
+
+use crate::operator::{AssignmentOperator, BinaryOperator, Class, Connective, UnaryOperator};
 use sqlite_items::{Boxed, Items};
+use std::alloc::{AllocError, Global};
 
 /// A name where it stands in a script.
 #[derive(Debug, Drop)]
@@ -13,6 +13,22 @@ pub struct Identifier {
     pub name: Items<u8>,
     /// Where its token begins, in bytes from the text's beginning.
     pub at: u32,
+}
+
+impl Identifier {
+    /// The same name at the same place.
+    ///
+    /// # Errors
+    ///
+    /// Where memory is wanting.
+    pub fn copied(&self, alloc: Global) -> Result<Identifier, AllocError>
+        ensures { IfOk result (λ i. i ≡ self.now) }
+    {
+        Ok(Identifier {
+            name: Items::from_slice(alloc, self.name.as_slice())?,
+            at: self.at,
+        })
+    }
 }
 
 /// The pool that a task is spawned for, by its word.
@@ -29,8 +45,7 @@ pub enum Schedule {
     Dynamic,
 }
 
-/// An expression. The operators of one class that stand side by side are one node: its first
-/// operand, and the others in the order of the text, each behind its operator.
+/// An expression.
 #[cycle(ast)]
 #[derive(Drop)]
 pub enum Expr {
@@ -44,7 +59,7 @@ pub enum Expr {
     /// An expression in parentheses.
     Group(Boxed<Expr>),
     /// A call of a function by its name, with its arguments.
-    Call(Identifier, Items<Expr>),
+    Call(Identifier, Items<Boxed<Expr>>),
     /// `println(item, ..)`
     Println(Items<Item>),
     /// `error("text")`
@@ -68,14 +83,9 @@ pub enum Expr {
     /// `base ^ exponent`
     Power(Boxed<Expr>, Boxed<Expr>),
     Unary(UnaryOperator, Boxed<Expr>),
-    Shift(Boxed<Expr>, Items<(ShiftOperator, Expr)>),
-    Product(Boxed<Expr>, Items<(ProductOperator, Expr)>),
-    Sum(Boxed<Expr>, Items<(SumOperator, Expr)>),
-    Comparison(Boxed<Expr>, Items<(ComparisonOperator, Expr)>),
-    /// Operands with `&&` between.
-    And(Boxed<Expr>, Items<Expr>),
-    /// Operands with `||` between.
-    Or(Boxed<Expr>, Items<Expr>),
+    /// A first operand, and the others in the order of the text, each behind its operator, all of
+    /// which are of this class.
+    Chain(Class, Boxed<Expr>, Items<(BinaryOperator, Boxed<Expr>)>),
     /// `condition ? value : otherwise`
     Conditional(Boxed<Expr>, Boxed<Expr>, Boxed<Expr>),
     /// `begin .. end`
@@ -105,7 +115,7 @@ pub enum Expr {
 #[derive(Drop)]
 pub enum Item {
     /// An expression, whose value is printed.
-    Value(Expr),
+    Value(Boxed<Expr>),
     /// A string's bytes, with each escape replaced by what it stands for.
     Text(Items<u8>),
 }
@@ -114,7 +124,7 @@ pub enum Item {
 #[cycle(ast)]
 #[derive(Drop)]
 pub struct Arm {
-    pub condition: Expr,
+    pub condition: Boxed<Expr>,
     pub body: Items<Stmt>,
 }
 
@@ -133,14 +143,15 @@ pub enum Jump {
 #[derive(Drop)]
 pub enum Stmt {
     /// `name = value`, or with another assignment operator.
-    Assign(Identifier, AssignmentOperator, Expr),
+    Assign(Identifier, AssignmentOperator, Boxed<Expr>),
     /// `name[] = value`
-    Store(Identifier, Expr),
+    Store(Identifier, Boxed<Expr>),
     Jump(Jump),
-    /// Operands with `&&` between, or `||`, and behind them the same operator and a jump.
-    Guard(Connective, Expr, Items<Expr>, Jump),
+    /// A first operand, and the others each behind this operator, and behind them the operator and a
+    /// jump.
+    Guard(Connective, Boxed<Expr>, Items<(BinaryOperator, Boxed<Expr>)>, Jump),
     /// An expression, whose value is the statement's.
-    Expression(Expr),
+    Expression(Boxed<Expr>),
 }
 
 /// What stands between two separators of a script.
@@ -149,11 +160,11 @@ pub enum TopForm {
     /// `using Base.Threads`
     Using,
     /// `const name = value`
-    Constant(Identifier, Expr),
+    Constant(Identifier, Boxed<Expr>),
     /// `function name(parameter, ..) .. end`
     Function(Identifier, Items<Identifier>, Items<Stmt>),
     /// `name(parameter, ..) = value`
-    ShortFunction(Identifier, Items<Identifier>, Expr),
+    ShortFunction(Identifier, Items<Identifier>, Boxed<Expr>),
     Stmt(Stmt),
 }
 

@@ -1,5 +1,6 @@
 //! Tokens.
 
+use crate::operator::BinaryOperator;
 use sqlite_items::Items;
 
 /// A sign, a keyword, a word with a rule of its own, a newline, or the end of the text.
@@ -41,24 +42,7 @@ pub enum Sign {
     Sync,
     Threads,
     // Signs, with their spelling where the name does not tell it.
-    /// `>>>`
-    ShiftRightZero,
-    /// `>>`
-    ShiftRight,
-    /// `<<`
-    ShiftLeft,
-    /// `<=` or `≤`
-    LessEqual,
-    /// `>=` or `≥`
-    GreaterEqual,
-    /// `==`
-    Equal,
-    /// `!=` or `≠`
-    NotEqual,
-    /// `&&`
-    AndAlso,
-    /// `||`
-    OrElse,
+    Binary(BinaryOperator),
     /// `+=`
     PlusAssign,
     /// `-=`
@@ -69,26 +53,10 @@ pub enum Sign {
     DivideAssign,
     /// `%=`
     PercentAssign,
-    Plus,
-    Minus,
-    Star,
-    /// `÷`
-    Divide,
-    Percent,
-    /// `^`
-    Caret,
-    /// `&`
-    And,
-    /// `|`
-    Or,
-    /// `⊻`
-    Xor,
     /// `~`
     Tilde,
     /// `!`
     Not,
-    Less,
-    Greater,
     /// `=`
     Assign,
     /// `?`

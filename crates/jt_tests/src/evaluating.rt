@@ -3,9 +3,9 @@
 use jt_base::{
     Fault, How, Job, Limits, Op, OutOfMemory, Path, Pool, Reply, Seeds, Sizes, Text, Value,
 };
-use jt_program::{Arm, BinaryOperator, Body, BuiltIn, Callee, Code, Fork, Literal, Piece, Program};
+use jt_program::{Arm, Body, BuiltIn, Callee, Code, Fork, Literal, Piece, Program};
 use jt_step::{Advance, Start, TaskRun};
-use jt_syntax::ComparisonOperator;
+use jt_syntax::{ArithmeticOperator, ComparisonOperator};
 use sqlite_items::{Boxed, Items};
 use std::alloc::Global;
 use std::process::Abort;
@@ -57,7 +57,7 @@ fn counts_down(alloc: Global) -> Result<Code, OutOfMemory> {
         body: number(7),
     })?;
     let mut operands = Items::new(alloc);
-    operands.push((BinaryOperator::Subtract, number(1)))?;
+    operands.push((ArithmeticOperator::Subtract, number(1)))?;
     let less = Code::Operation(Boxed::new(alloc, Code::Variable(0))?, operands);
     let further = call(alloc, Callee::Function(0), less)?;
     Ok(Code::Branch(arms, Boxed::new(alloc, further)?))

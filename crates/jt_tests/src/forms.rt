@@ -1,6 +1,6 @@
 //! The functions of the language.
 
-use jt_forms::{Arity, arity_of, is_language_function, is_running_function};
+use jt_forms::{Arity, Function, arity_of, is_language_function};
 use std::test::Fail;
 
 // A name, and how many arguments the function of that name takes, if there is one.
@@ -25,8 +25,24 @@ fn names_have_their_arities(rt: HostRuntime) -> Result<(), Fail> {
         assert_eq!(&rt; arity_of(row.0), row.1);
         assert_eq!(&rt; is_language_function(row.0), row.1.is_some());
     }
-    assert!(&rt; is_running_function(b"rem"));
-    assert!(&rt; is_running_function(b"yield"));
-    assert!(&rt; !is_running_function(b"reset"));
+    Ok(())
+}
+
+#[test]
+fn names_mean_their_functions(rt: HostRuntime) -> Result<(), Fail> {
+    assert_eq!(&rt;
+        Function::named(b"atomic_xchg!"),
+        Some(Function::AtomicXchg)
+    );
+    assert_eq!(&rt; Function::named(b"atomic_xchg"), None);
+    assert_eq!(&rt; Function::ReentrantLock.name(), b"ReentrantLock".as_slice());
+    Ok(())
+}
+
+#[test]
+fn some_functions_run(rt: HostRuntime) -> Result<(), Fail> {
+    assert!(&rt; Function::Rem.runs());
+    assert!(&rt; Function::Yield.runs());
+    assert!(&rt; !Function::Reset.runs());
     Ok(())
 }

@@ -2,8 +2,8 @@
 
 use jt_printer::print_script;
 use jt_syntax::{
-    Arm, Connective, Expr, Identifier, Item, Jump, Schedule, Script, Stmt, SumOperator, Top,
-    TopForm, UnaryOperator,
+    ArithmeticOperator, Arm, BinaryOperator, Class, Connective, Expr, Identifier, Item, Jump,
+    Schedule, Script, Stmt, Top, TopForm, UnaryOperator,
 };
 use sqlite_items::{Boxed, Items};
 use std::alloc::{AllocError, Global};
@@ -24,30 +24,36 @@ fn number(alloc: Global, value: u64) -> Result<Boxed<Expr>, AllocError> {
     Boxed::new(alloc, Expr::Number(value))
 }
 
+fn truth(alloc: Global, value: bool) -> Result<Boxed<Expr>, AllocError> {
+    Boxed::new(alloc, Expr::Truth(value))
+}
+
 fn body(alloc: Global, value: u64) -> Result<Items<Stmt>, AllocError> {
     let mut statements = Vec::new(alloc);
-    statements.push(Stmt::Expression(Expr::Number(value)))?;
+    statements.push(Stmt::Expression(number(alloc, value)?))?;
     Ok(Items::from_vec(statements))
 }
 
 fn sum(alloc: Global) -> Result<Expr, AllocError> {
     let mut terms = Vec::new(alloc);
-    terms.push((SumOperator::Minus, Expr::Number(1)))?;
-    terms.push((SumOperator::Xor, Expr::Number(2)))?;
-    Ok(Expr::Sum(variable(alloc, b"a")?, Items::from_vec(terms)))
+    let minus = BinaryOperator::Arithmetic(ArithmeticOperator::Subtract);
+    let xor = BinaryOperator::Arithmetic(ArithmeticOperator::Xor);
+    terms.push((minus, number(alloc, 1)?))?;
+    terms.push((xor, number(alloc, 2)?))?;
+    Ok(Expr::Chain(Class::Sum, variable(alloc, b"a")?, Items::from_vec(terms)))
 }
 
 fn println(alloc: Global) -> Result<Expr, AllocError> {
     let mut items = Vec::new(alloc);
     items.push(Item::Text(Items::from_slice(alloc, b"a\n\t\"$\\")?))?;
-    items.push(Item::Value(Expr::Truth(true)))?;
+    items.push(Item::Value(truth(alloc, true)?))?;
     Ok(Expr::Println(Items::from_vec(items)))
 }
 
 fn branches(alloc: Global) -> Result<Expr, AllocError> {
     let mut arms = Vec::new(alloc);
     arms.push(Arm {
-        condition: Expr::Truth(false),
+        condition: truth(alloc, false)?,
         body: body(alloc, 2)?,
     })?;
     let last = Some(body(alloc, 3)?);
@@ -84,7 +90,7 @@ fn function(alloc: Global) -> Result<TopForm, AllocError> {
 fn guard(alloc: Global) -> Result<Stmt, AllocError> {
     Ok(Stmt::Guard(
         Connective::Or,
-        Expr::Truth(true),
+        truth(alloc, true)?,
         Items::new(alloc),
         Jump::Return(3, Some(number(alloc, 5)?)),
     ))
@@ -108,7 +114,7 @@ fn form(alloc: Global, row: usize) -> Result<TopForm, AllocError> {
         8 => Ok(TopForm::Using),
         9 => function(alloc),
         10 => Ok(TopForm::Stmt(guard(alloc)?)),
-        _ => Ok(TopForm::Stmt(Stmt::Expression(expression(alloc, row)?))),
+        _ => Ok(TopForm::Stmt(Stmt::Expression(Boxed::new(alloc, expression(alloc, row)?)?))),
     }
 }
 

@@ -35,9 +35,9 @@ x =# y => 'x@0 Assign@2 Stop@6
 1_ => #1@0 '_@1 Stop@2
 007x => #7@0 'x@3 Stop@4
 0x1F => #0@0 'x1F@1 Stop@4
-a!=b => 'a@0 NotEqual@1 'b@3 Stop@4
+a!=b => 'a@0 Binary(Comparison(NotEqual))@1 'b@3 Stop@4
 a! =b => 'a!@0 Assign@3 'b@4 Stop@5
-a!!=b => 'a!@0 NotEqual@2 'b@4 Stop@5
+a!!=b => 'a!@0 Binary(Comparison(NotEqual))@2 'b@4 Stop@5
 _a1!(!b) => '_a1!@0 Open@4 Not@5 'b@6 Close@7 Stop@8
 begin beginx end => Begin@0 'beginx@6 End@13 Stop@16
 elseif else if => ElseIf@0 Else@7 If@12 Stop@14
@@ -78,15 +78,15 @@ println(\"a => open string at 8
 x \"\" => 'x@0 T@2 Stop@4
 ) \"a => open string at 2
 a.b => bad character at 1
-a>>>b>>c>d>=e => 'a@0 ShiftRightZero@1 'b@4 ShiftRight@5 'c@7 Greater@8 'd@9 GreaterEqual@10 'e@12 Stop@13
->>>= => ShiftRightZero@0 Assign@3 Stop@4
-a<<b<=c<d => 'a@0 ShiftLeft@1 'b@3 LessEqual@4 'c@6 Less@7 'd@8 Stop@9
-≤≥≠÷=÷⊻ => LessEqual@0 GreaterEqual@3 NotEqual@6 DivideAssign@9 Divide@12 Xor@14 Stop@17
-&&&||| => AndAlso@0 And@2 OrElse@3 Or@5 Stop@6
-+=-=*=%===! => PlusAssign@0 MinusAssign@2 StarAssign@4 PercentAssign@6 Equal@8 Not@10 Stop@11
-[$a]?:,;~^% => OpenSquare@0 Dollar@1 'a@2 CloseSquare@3 Question@4 Colon@5 Comma@6 Semicolon@7 Tilde@8 Caret@9 Percent@10 Stop@11
+a>>>b>>c>d>=e => 'a@0 Binary(Arithmetic(ShiftRightZero))@1 'b@4 Binary(Arithmetic(ShiftRight))@5 'c@7 Binary(Comparison(Greater))@8 'd@9 Binary(Comparison(GreaterEqual))@10 'e@12 Stop@13
+>>>= => Binary(Arithmetic(ShiftRightZero))@0 Assign@3 Stop@4
+a<<b<=c<d => 'a@0 Binary(Arithmetic(ShiftLeft))@1 'b@3 Binary(Comparison(LessEqual))@4 'c@6 Binary(Comparison(Less))@7 'd@8 Stop@9
+≤≥≠÷=÷⊻ => Binary(Comparison(LessEqual))@0 Binary(Comparison(GreaterEqual))@3 Binary(Comparison(NotEqual))@6 DivideAssign@9 Binary(Arithmetic(Divide))@12 Binary(Arithmetic(Xor))@14 Stop@17
+&&&||| => Binary(Connective(And))@0 Binary(Arithmetic(And))@2 Binary(Connective(Or))@3 Binary(Arithmetic(Or))@5 Stop@6
++=-=*=%===! => PlusAssign@0 MinusAssign@2 StarAssign@4 PercentAssign@6 Binary(Comparison(Equal))@8 Not@10 Stop@11
+[$a]?:,;~^% => OpenSquare@0 Dollar@1 'a@2 CloseSquare@3 Question@4 Colon@5 Comma@6 Semicolon@7 Tilde@8 Binary(Arithmetic(Power))@9 Binary(Arithmetic(Remainder))@10 Stop@11
 x+é => bad character at 2
-x = (1 + => 'x@0 Assign@2 Open@4 #1@5 Plus@7 Stop@8
+x = (1 + => 'x@0 Assign@2 Open@4 #1@5 Binary(Arithmetic(Add))@7 Stop@8
 for i in 1:3 println(i) => For@0 'i@4 In@6 #1@9 Colon@10 #3@11 Println@13 Open@20 'i@21 Close@22 Stop@23
 ";
 

@@ -12,10 +12,10 @@ use Rattle.jt_lexer.proofs.TokenLaws.{tokens_read}
 use Rattle.jt_lexer.specs.Tokens.{IsTokensOf}
 use Rattle.jt_lexer.specs.declared.error.LexError.TheVariants as lexical
 use Rattle.jt_forms.specs.Built.{unbuilt}
-use Rattle.jt_scopes.specs.declared.rules.Broken.{Broken}
-use Rattle.jt_scopes.specs.declared.rules.Rule.{Rule}
-use Rattle.jt_scopes.specs.declared.rules.Rule.TheVariants as rule
-use Rattle.jt_scopes.specs.Scripts.{Among, Breaks, BreaksNone, broken_rules}
+use Rattle.jt_rules.specs.declared.rules.Broken.{Broken}
+use Rattle.jt_rules.specs.declared.rules.Rule.{Rule}
+use Rattle.jt_rules.specs.declared.rules.Rule.TheVariants as rule
+use Rattle.jt_rules.specs.Scripts.{Among, Breaks, BreaksNone, broken_rules}
 use Rattle.jt_syntax.specs.Tree.{TopTree}
 use Rattle.jt_syntax.specs.declared.token.Token.{Token}
 use Rattle.jt_tool.specs.declared.report.Refusal.{Refusal}

@@ -15,13 +15,13 @@ use Rattle.jt_lexer.specs.declared.error.LexError.TheVariants as lexical
 use Rattle.jt_lexer.specs.Tokens.{IsTokensOf, Refuses}
 use Rattle.jt_parser.specs.declared.error.ParseError.{ParseError}
 use Rattle.jt_parser.specs.declared.error.ParseError.TheVariants as grammatical
-use Rattle.jt_scopes.specs.declared.rules.Rule.{Rule}
-use Rattle.jt_scopes.specs.declared.rules.Rule.TheVariants as rule
-use Rattle.jt_scopes.specs.Rules.{broken}
-use Rattle.jt_scopes.specs.Scripts.{Breaks, BreaksNone}
+use Rattle.jt_rules.specs.declared.rules.Rule.{Rule}
+use Rattle.jt_rules.specs.declared.rules.Rule.TheVariants as rule
+use Rattle.jt_rules.specs.Rules.{broken}
+use Rattle.jt_rules.specs.Scripts.{Breaks, BreaksNone}
 use Rattle.jt_resolve.specs.declared.error.NameError.{NameError}
 use Rattle.jt_resolve.specs.declared.error.NameError.TheVariants as naming
-use Rattle.jt_resolve.specs.Programs.{program_of}
+use Rattle.jt_bind.specs.Programs.{program_of}
 use Rattle.jt_syntax.specs.Tree.{TopTree}
 use Rattle.jt_syntax.specs.declared.token.Token.{Token}
 use Rattle.jt_machine.specs.declared.run.End.{End}

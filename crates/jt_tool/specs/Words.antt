@@ -1,7 +1,7 @@
 -- The words of the command line.
 use Rattle.std.specs.Prelude.{ℕ, ◌+◌, ◌*◌, ◌-◌, List, [], ◌∷◌, ◌++◌, Bool, ◌&&◌, Option, Some, None, length, nat_eq, nat_le, if◌then◌else◌, codes}
 use Rattle.jt_base.specs.declared.run.Sizes.{Sizes}
-use Rattle.jt_forms.specs.Functions.{same_name}
+use Rattle.jt_syntax.specs.Bytes.{same_bytes}
 
 -- a decimal digit
 abbrev pub is_digit : ℕ → Bool
@@ -55,9 +55,9 @@ one_worker = record { default = 1; interactive = 0 }
 -- the numbers of workers that the command `run` or `run --threads N,M` names; none for other words
 abbrev pub sizes_named : List (List ℕ) → Option Sizes
 sizes_named [] = None
-sizes_named (a ∷ []) = if same_name a (codes "run") then Some one_worker else None
+sizes_named (a ∷ []) = if same_bytes a (codes "run") then Some one_worker else None
 sizes_named (a ∷ b ∷ []) = None
-sizes_named (a ∷ b ∷ c ∷ []) = if same_name a (codes "run") && same_name b (codes "--threads") then threads_named c else None
+sizes_named (a ∷ b ∷ c ∷ []) = if same_bytes a (codes "run") && same_bytes b (codes "--threads") then threads_named c else None
 sizes_named (a ∷ b ∷ c ∷ d ∷ words) = None
 
 -- the same with one default worker alone

@@ -9,7 +9,7 @@ ghost use Rattle.jt_grammar.specs.Nesting.{TopsWithin};
 ghost use Rattle.jt_grammar.specs.Grammar.{EndsWithStop};
 ghost use Rattle.jt_forms.specs.Built.{unbuilt};
 ghost use Rattle.jt_lexer.specs.Tokens.{IsTokensOf};
-ghost use Rattle.jt_scopes.specs.Scripts.{BreaksNone};
+ghost use Rattle.jt_rules.specs.Scripts.{BreaksNone};
 ghost use Rattle.jt_syntax.specs.View.{script_view};
 ghost use Rattle.jt_tool.specs.Tool.{IsRunOf, run_with, Stops, StopsTokens, StopsScript, TellsFailure, most_script, most_open, default_seeds, status_of_end};
 

@@ -2,7 +2,7 @@ use Rattle.std.proofs.Common.{◌≡◌, ◌∙◌, ◌+◌, ◌-◌, ◌≤◌,
 use Rattle.std.proofs.lemmas.List.{length-map}
 use Rattle.jt_syntax.specs.View.{top_views}
 use Rattle.jt_grammar.proofs.Main.{lines_only}
-use Rattle.jt_parser.specs.Tokens.{now}
+use Rattle.jt_cursor.specs.Tokens.{now}
 use Rattle.jt_parser.proofs.Whole.{is_script, is_unexpected, is_deep, not_spent}
 use Rattle.jt_parser.proofs.parsing.parse.Goals as goal
 

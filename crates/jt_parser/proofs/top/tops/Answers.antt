@@ -1,7 +1,7 @@
 use Rattle.std.proofs.Common.{◌≡◌, ◌∙◌, [], ◌∷◌, true, false, map, Ok, ap, rules}
 use Rattle.jt_syntax.specs.View.{top_view}
 use Rattle.jt_grammar.specs.Reader.{read_top, ends, kind_of}
-use Rattle.jt_parser.proofs.Lists.{list_done, list_refused, list_gap_refused, list_goes, list_ends, list_spent, list_gathered}
+use Rattle.jt_cursor.proofs.Lists.{list_done, list_refused, list_gap_refused, list_goes, list_ends, list_spent, list_gathered}
 use Rattle.jt_parser.proofs.top.tops.Goals as goal
 
 pub returns-then-ends : goal.returns-then-ends

@@ -1,6 +1,6 @@
 use Rattle.std.proofs.Common.{◌≡◌, ◌+◌, ◌*◌, ◌++◌, map, drop, max}
 use denote.Param.Weighed.{most}
-use Rattle.jt_syntax.specs.View.{views, item_views, term_view, terms_of, operands_of, shift_sign, product_sign, sum_sign, comparison_sign, arms_of, arm_view, stmt_views, view}
+use Rattle.jt_syntax.specs.View.{views, item_views, term_view, terms_of, arms_of, arm_view, stmt_views}
 use Rattle.jt_syntax.specs.Tree as tree
 use Rattle.jt_syntax.specs.declared.script.Expr.{size-Expr}
 use Rattle.jt_syntax.specs.declared.script.Item.{size-Item}
@@ -18,7 +18,7 @@ abbrev pub decreases-enclosed : goal.decreases-enclosed
 decreases-enclosed l = 8 * (size-Expr l.inner.now) + 1
 
 abbrev pub decreases-call : goal.decreases-call
-decreases-call l = 8 * (most size-Expr l.arguments.now) + 1
+decreases-call l = 8 * (most size-Expr l.arguments.now) + 2
 
 abbrev pub decreases-println : goal.decreases-println
 decreases-println l = 8 * (most size-Item l.items.now) + 1
@@ -41,20 +41,14 @@ decreases-pair l = 8 * (max (size-Expr l.first.now) (size-Expr l.second.now)) + 
 abbrev pub decreases-prefixed : goal.decreases-prefixed
 decreases-prefixed l = 8 * (size-Expr l.operand.now) + 1
 
-abbrev pub decreases-shifts : goal.decreases-shifts
-decreases-shifts l = 8 * (max (size-Expr l.first.now) (most (λ t. size-Expr t.1) l.terms.now)) + 2
+abbrev pub decreases-power : goal.decreases-power
+decreases-power l = 8 * (max (size-Expr l.base.now) (size-Expr l.exponent.now)) + 2
 
-abbrev pub decreases-products : goal.decreases-products
-decreases-products l = 8 * (max (size-Expr l.first.now) (most (λ t. size-Expr t.1) l.terms.now)) + 2
+abbrev pub decreases-unary : goal.decreases-unary
+decreases-unary l = 8 * (size-Expr l.operand.now) + 2
 
-abbrev pub decreases-sums : goal.decreases-sums
-decreases-sums l = 8 * (max (size-Expr l.first.now) (most (λ t. size-Expr t.1) l.terms.now)) + 2
-
-abbrev pub decreases-comparisons : goal.decreases-comparisons
-decreases-comparisons l = 8 * (max (size-Expr l.first.now) (most (λ t. size-Expr t.1) l.terms.now)) + 2
-
-abbrev pub decreases-operands : goal.decreases-operands
-decreases-operands l = 8 * (max (size-Expr l.first.now) (most size-Expr l.rest.now)) + 2
+abbrev pub decreases-chain : goal.decreases-chain
+decreases-chain l = 8 * (max (size-Expr l.first.now) (most (λ t. size-Expr t.1) l.terms.now)) + 2
 
 abbrev pub decreases-conditional : goal.decreases-conditional
 decreases-conditional l = 8 * (max (size-Expr l.test.now) (max (size-Expr l.value.now) (size-Expr l.otherwise.now))) + 2
@@ -95,6 +89,15 @@ decreases-statements l = 8 * (most size-Stmt l.statements.now) + 1
 abbrev pub decreases-statement : goal.decreases-statement
 decreases-statement l = 8 * (size-Stmt l.statement.now)
 
+abbrev pub decreases-tests : goal.decreases-tests
+decreases-tests l = 8 * (max (size-Expr l.first.now) (most (λ t. size-Expr t.1) l.terms.now)) + 3
+
+abbrev pub decreases-assignment : goal.decreases-assignment
+decreases-assignment l = 8 * (size-Expr l.value.now) + 2
+
+abbrev pub decreases-store : goal.decreases-store
+decreases-store l = 8 * (size-Expr l.value.now) + 2
+
 abbrev pub decreases-jump : goal.decreases-jump
 decreases-jump l = 8 * (size-Jump l.jump.now)
 
@@ -104,20 +107,8 @@ invariant-call-loop-argument l = l.self.kinds.items ++ comma_kinds (views (drop 
 abbrev pub invariant-println-loop-item : goal.invariant-println-loop-item
 invariant-println-loop-item l = l.self.kinds.items ++ comma_kinds (item_views (drop l.item-index l.rest)) ≡ l.initial.self.kinds.items ++ comma_kinds (item_views l.rest)
 
-abbrev pub invariant-shifts-loop-term : goal.invariant-shifts-loop-term
-invariant-shifts-loop-term l = l.self.kinds.items ++ term_kinds (terms_of shift_sign (map term_view (drop l.term-index l.terms))) ≡ l.initial.self.kinds.items ++ term_kinds (terms_of shift_sign (map term_view l.terms))
-
-abbrev pub invariant-products-loop-term : goal.invariant-products-loop-term
-invariant-products-loop-term l = l.self.kinds.items ++ term_kinds (terms_of product_sign (map term_view (drop l.term-index l.terms))) ≡ l.initial.self.kinds.items ++ term_kinds (terms_of product_sign (map term_view l.terms))
-
-abbrev pub invariant-sums-loop-term : goal.invariant-sums-loop-term
-invariant-sums-loop-term l = l.self.kinds.items ++ term_kinds (terms_of sum_sign (map term_view (drop l.term-index l.terms))) ≡ l.initial.self.kinds.items ++ term_kinds (terms_of sum_sign (map term_view l.terms))
-
-abbrev pub invariant-comparisons-loop-term : goal.invariant-comparisons-loop-term
-invariant-comparisons-loop-term l = l.self.kinds.items ++ term_kinds (terms_of comparison_sign (map term_view (drop l.term-index l.terms))) ≡ l.initial.self.kinds.items ++ term_kinds (terms_of comparison_sign (map term_view l.terms))
-
-abbrev pub invariant-operands-loop-operand : goal.invariant-operands-loop-operand
-invariant-operands-loop-operand l = l.self.kinds.items ++ term_kinds (operands_of l.sign (map view (drop l.operand-index l.rest))) ≡ l.initial.self.kinds.items ++ term_kinds (operands_of l.sign (map view l.rest))
+abbrev pub invariant-chain-loop-term : goal.invariant-chain-loop-term
+invariant-chain-loop-term l = l.self.kinds.items ++ term_kinds (terms_of (map term_view (drop l.term-index l.terms))) ≡ l.initial.self.kinds.items ++ term_kinds (terms_of (map term_view l.terms))
 
 abbrev pub invariant-first_arms-loop-arm : goal.invariant-first_arms-loop-arm
 invariant-first_arms-loop-arm l = l.self.kinds.items ++ arms_kinds (arms_of (map arm_view (drop l.arm-index l.arms)) tree.no_arms) ≡ l.initial.self.kinds.items ++ arms_kinds (arms_of (map arm_view l.arms) tree.no_arms)

@@ -1,0 +1,7 @@
+pub mod Behind
+pub mod Tied
+pub mod Whole
+pub mod Texts
+pub mod Arms
+pub mod Outcomes
+mod Examples

@@ -1,0 +1,42 @@
+-- What a walk makes, where what is made of its parts comes out well.
+use Rattle.std.proofs.Common.{◌≡◌, List, [], ◌∷◌, ◌++◌, Result, Ok, Err, IfOk, OnOk, ap, sym, ◌∙◌}
+use Rattle.jt_program.specs.declared.code.Code.{Code}
+use Rattle.jt_syntax.specs.Tree.{TopTree}
+use Rattle.jt_program.specs.Plan.{Plan, Plans, BodyPlan}
+use Rattle.jt_program.specs.Plan as plan
+use Rattle.jt_program.specs.View.{plan_of}
+use Rattle.jt_bind.specs.Behind.{behind, with_last}
+use Rattle.jt_bind.specs.Made.{Made, made, with, both}
+use Rattle.jt_bind.specs.Programs.{one_more}
+use Rattle.jt_bind.specs.States.{State}
+use Rattle.jt_bind.proofs.Behind.{with_pushed}
+
+pub code_made : {E : Type 0} (r : Result Code E) (m : Made State Plan) (q : Plan) (s : State) → m ≡ made q s → IfOk r (λ p. plan_of p ≡ q) → IfOk r (λ p. m ≡ made (plan_of p) s)
+code_made (Ok p) m q s h e = h ∙ ap (λ q. made q s) (sym e)
+code_made (Err x) m q s h e = e
+
+pub list_made : {A E B : Type 0} (r : Result A E) (m : Made State (List B)) (xs ys : List B) (s : State) → m ≡ made xs s → OnOk r (ys ≡ xs) → OnOk r (m ≡ made ys s)
+list_made (Ok a) m xs ys s h e = h ∙ ap (λ q. made q s) (sym e)
+list_made (Err x) m xs ys s h e = e
+
+-- a part of the main task goes behind the others, and the rest behind it
+part_put : (old new : List Plan) (m : Made State Plan) (q : Plan) (s : State) (rest : State → Made State Plans) → m ≡ made q s → new ≡ old ++ q ∷ []
+    → with (behind plan.plan new) (rest s) ≡ with (behind plan.plan old) (both plan.plan m rest)
+part_put old new m q s rest h e =
+    ap (λ ps. with (behind plan.plan ps) (rest s)) e
+    ∙ (with_pushed plan.plan old q (rest s) ∙ ap (λ m. with (behind plan.plan old) (both plan.plan m rest)) (sym h))
+
+pub part_made : {A E : Type 0} (r : Result A E) (old new : List Plan) (m : Made State Plan) (q : Plan) (s : State) (rest : State → List TopTree → Made State Plans) → m ≡ made q s → OnOk r (new ≡ old ++ q ∷ [])
+    → OnOk r ((ts : List TopTree) → with (behind plan.plan new) (rest s ts) ≡ with (behind plan.plan old) (both plan.plan m (λ t. rest t ts)))
+part_made (Ok a) old new m q s rest h e = λ ts. part_put old new m q s (λ t. rest t ts) h e
+part_made (Err x) old new m q s rest h e = e
+
+function_put : (old new : List BodyPlan) (w : Made State BodyPlan) (s : State) (rest : State → Made State (List BodyPlan)) → with (with_last old) w ≡ made new s
+    → with (behind one_more new) (rest s) ≡ with (behind one_more old) (both one_more w rest)
+function_put old new w s rest h =
+    ap (λ m. with (behind one_more m.it) (rest m.state)) (sym h) ∙ with_pushed one_more old w.it (rest w.state)
+
+pub function_made : {A E : Type 0} (r : Result A E) (old new : List BodyPlan) (w : Made State BodyPlan) (s : State) (rest : State → List TopTree → Made State (List BodyPlan)) → OnOk r (with (with_last old) w ≡ made new s)
+    → OnOk r ((ts : List TopTree) → with (behind one_more new) (rest s ts) ≡ with (behind one_more old) (both one_more w (λ t. rest t ts)))
+function_made (Ok a) old new w s rest e = λ ts. function_put old new w s (λ t. rest t ts) e
+function_made (Err x) old new w s rest e = e

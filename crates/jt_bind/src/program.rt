@@ -1,0 +1,192 @@
+//! Whole scripts to programs.
+
+ghost use Rattle.std.specs.Prelude.{◌≡◌, ◌∷◌, [], List, OnOk, IfOk, map};
+ghost use Rattle.jt_bind.specs.Behind.{behind, with_last};
+ghost use Rattle.jt_bind.specs.Made.{made, with};
+ghost use Rattle.jt_nodes.specs.Nodes.{body_of};
+ghost use Rattle.jt_bind.specs.Programs as spec;
+ghost use Rattle.jt_bind.specs.WalkedPrograms as walked;
+ghost use Rattle.jt_bind.specs.Walks.{numbers, state};
+ghost use Rattle.jt_names.specs.Tops as tops;
+ghost use Rattle.jt_outline.specs.Outlines.{outline_of};
+ghost use Rattle.jt_program.specs.Plan as plan;
+ghost use Rattle.jt_program.specs.View.{plan_of, plans, body_plan, program_plan};
+ghost use Rattle.jt_scopes.specs.Scopes.{scopes_of};
+ghost use Rattle.jt_syntax.specs.Tree.{TopTree};
+ghost use Rattle.jt_syntax.specs.View as trees;
+
+use crate::binder::Binder;
+use crate::walk::Walk;
+use jt_names::{Functions, Names};
+use jt_nodes::{Allocated, Node, block, define, nothing, push, push_body};
+use jt_program::{Body, Code, Program};
+use jt_scopes::Scope;
+use jt_syntax::{Expr, Identifier, Script, Stmt, Top, TopForm};
+use sqlite_items::Items;
+use std::alloc::{AllocError, Global};
+
+/// The number of a constant, 0 where there is none of the name.
+fn constant_number(constants: &Names, name: &Identifier) -> usize
+    ensures { result ≡ spec.constant_number constants.now name.now }
+{
+    constants.index(name.name.as_slice()).unwrap_or(0)
+}
+
+impl Binder<'_> {
+    /// Puts a function behind the others.
+    fn function(
+        &self,
+        walk: &mut Walk<'_>,
+        functions: &mut Items<Body>,
+        body: &[Stmt],
+    ) -> Allocated<()>
+        ensures { OnOk result (with (with_last (map body_plan functions.old)) (walked.walked_function (numbers self.now) (state walk.old) (trees.stmt_views body.now)) ≡ made (map body_plan functions.new) (state walk.new)) }
+    {
+        let variables = walk.count();
+        let parts = self.within(walk, body)?;
+        let code = block(self.alloc, parts)?;
+        push_body(functions, variables, code)
+    }
+
+    /// Puts a function with an expression for its body behind the others.
+    fn short_function(
+        &self,
+        walk: &mut Walk<'_>,
+        functions: &mut Items<Body>,
+        value: &Expr,
+    ) -> Allocated<()>
+        ensures { OnOk result (with (with_last (map body_plan functions.old)) (walked.walked_short (numbers self.now) (state walk.old) (trees.view value.now)) ≡ made (map body_plan functions.new) (state walk.new)) }
+    {
+        let variables = walk.count();
+        let code = self.inside(walk, value)?;
+        push_body(functions, variables, code)
+    }
+
+    /// Adds the function that a form of the script makes, if it makes one.
+    fn add_function(
+        &self,
+        walk: &mut Walk<'_>,
+        functions: &mut Items<Body>,
+        top: &Top,
+    ) -> Allocated<()>
+        ensures { OnOk result ((tops : List TopTree) → with (behind spec.one_more (map body_plan functions.new)) (walked.walked_functions (numbers self.now) (state walk.new) tops) ≡ with (behind spec.one_more (map body_plan functions.old)) (walked.walked_functions (numbers self.now) (state walk.old) (trees.top_view top.now ∷ tops))) }
+    {
+        match &top.form {
+            TopForm::Function(_, _, body) => self.function(walk, functions, body.as_slice()),
+            TopForm::ShortFunction(_, _, value) => {
+                self.short_function(walk, functions, value.get())
+            }
+            TopForm::Using | TopForm::Constant(_, _) | TopForm::Stmt(_) => Ok(()),
+        }
+    }
+
+    /// The functions in the order of the script.
+    fn functions(&self, walk: &mut Walk<'_>, tops: &[Top]) -> Allocated<Items<Body>>
+        ensures { IfOk result (λ p. walked.walked_functions (numbers self.now) (state walk.old) (trees.top_views tops.now) ≡ made (map body_plan p) (state walk.new)) }
+    {
+        let mut functions = Items::new(self.alloc);
+        for top in tops {
+            self.add_function(walk, &mut functions, top)?;
+        }
+        Ok(functions)
+    }
+
+    /// The definition of a constant.
+    fn definition(&self, walk: &mut Walk<'_>, name: &Identifier, value: &Expr) -> Allocated
+        ensures { IfOk result (λ p. walked.walked_definition (numbers self.now) (state walk.old) name.now (trees.view value.now) ≡ made (plan_of p) (state walk.new)) }
+    {
+        let number = constant_number(self.constants, name);
+        let value = self.expression(walk, value)?;
+        define(self.alloc, number, value)
+    }
+
+    /// Adds what the main task does for a form of the script.
+    fn add_part(&self, walk: &mut Walk<'_>, parts: &mut Items<Code>, top: &Top) -> Allocated<()>
+        ensures { OnOk result ((tops : List TopTree) → with (behind plan.plan (map plan_of parts.new)) (walked.walked_main (numbers self.now) (state walk.new) tops) ≡ with (behind plan.plan (map plan_of parts.old)) (walked.walked_main (numbers self.now) (state walk.old) (trees.top_view top.now ∷ tops))) }
+    {
+        match &top.form {
+            TopForm::Constant(name, value) => {
+                let code = self.definition(walk, name, value.get())?;
+                push(parts, code)
+            }
+            TopForm::Stmt(statement) => {
+                let code = self.statement(walk, statement)?;
+                push(parts, code)
+            }
+            TopForm::Using | TopForm::Function(_, _, _) | TopForm::ShortFunction(_, _, _) => Ok(()),
+        }
+    }
+
+    /// What the main task does.
+    fn main(&self, walk: &mut Walk<'_>, tops: &[Top]) -> Allocated<Items<Code>>
+        ensures { IfOk result (λ p. walked.walked_main (numbers self.now) (state walk.old) (trees.top_views tops.now) ≡ made (plans p) (state walk.new)) }
+    {
+        let mut parts = Items::new(self.alloc);
+        for top in tops {
+            self.add_part(walk, &mut parts, top)?;
+        }
+        let last = nothing(self.alloc)?;
+        push(&mut parts, last)?;
+        Ok(parts)
+    }
+
+    /// The main task's body, and the others behind it.
+    fn tasks(
+        &self,
+        variables: usize,
+        parts: Items<Code>,
+        others: Items<Body>,
+    ) -> Allocated<Items<Body>>
+        ensures { IfOk result (λ p. map body_plan p ≡ body_of variables (plan.block (plans parts)) ∷ map body_plan others) }
+    {
+        let mut tasks = Items::new(self.alloc);
+        let code = block(self.alloc, parts)?;
+        push_body(&mut tasks, variables, code)?;
+        tasks.append(others)?;
+        Ok(tasks)
+    }
+
+    /// The program, where the script's own scope begins next.
+    fn program(&self, walk: Walk<'_>, tops: &[Top]) -> Allocated<Program>
+        ensures { IfOk result (λ p. program_plan p ≡ walked.walked_program (numbers self.now) (state walk.entry) (trees.top_views tops.now)) }
+    {
+        let mut walk = walk;
+        let variables = walk.count();
+        walk.enter()?;
+        let functions = self.functions(&mut walk, tops)?;
+        let parts = self.main(&mut walk, tops)?;
+        let tasks = self.tasks(variables, parts, walk.into_bodies())?;
+        Ok(Program {
+            constants: self.constants.len(),
+            functions,
+            tasks,
+        })
+    }
+}
+
+/// The program of a script that has these scopes, in the order in which they begin, these constants
+/// and these functions.
+///
+/// # Errors
+///
+/// Where memory is wanting.
+#[tactic(auto, using(crate::proofs::Whole::program_tied))]
+pub fn bind(
+    alloc: Global,
+    script: &Script,
+    scopes: &[Scope],
+    constants: &Names,
+    functions: &Functions,
+) -> Result<Program, AllocError>
+    requires scopes { scopes.now ≡ scopes_of (outline_of (trees.script_view script.now)) }
+    requires constants { constants.now ≡ tops.constants_of [] (trees.script_view script.now) }
+    requires functions { functions.now ≡ tops.signatures_of [] (trees.script_view script.now) }
+    ensures { IfOk result (λ p. program_plan p ≡ spec.program_of (trees.script_view script.now)) }
+{
+    let binder = Binder {
+        alloc,
+        constants,
+        functions,
+    };
+    binder.program(Walk::new(alloc, scopes), script.tops.as_slice())
+}

@@ -1,0 +1,4 @@
+mod CommaTurns
+pub mod Lists
+mod Names
+pub mod Starts

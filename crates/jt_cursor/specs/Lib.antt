@@ -1,0 +1,6 @@
+pub mod Commas
+pub mod Kinds
+pub mod Names
+pub mod Operators
+pub mod Reads
+pub mod Tokens

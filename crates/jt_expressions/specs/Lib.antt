@@ -1,0 +1,4 @@
+pub mod Chains
+pub mod Channels
+pub mod Guards
+pub mod Nested

@@ -1,0 +1,5 @@
+pub mod Lookup
+pub mod FunctionLookup
+pub mod TableLaws
+pub mod HolderLaws
+mod Examples

@@ -1,0 +1,5 @@
+pub mod Names
+pub mod Lookup
+pub mod Tops
+pub mod Holding
+pub mod Table

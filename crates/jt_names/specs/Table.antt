@@ -1,0 +1,37 @@
+-- The table behind the open lists: for each name that some list had, the depths of those that are open.
+use Rattle.std.specs.Prelude.{◌≡◌, ℕ, suc, List, [], ◌∷◌, length, reverse, get_or, Option, Some, None, if◌then◌else◌}
+use Rattle.jt_syntax.specs.declared.script.Identifier.{Identifier}
+use Rattle.jt_names.specs.Names.{Name, is_named, index}
+
+-- those of the name with this number, the innermost one first
+abbrev pub listed : List (List ℕ) → Option ℕ → List ℕ
+listed ds None = []
+listed ds (Some n) = reverse (get_or ds n [])
+
+-- those of a name, where the names have these numbers
+abbrev pub depths_in : List Identifier → List (List ℕ) → Name → List ℕ
+depths_in ks ds x = listed ds (index ks x)
+
+-- the depths of a name, and before them this depth for each of the identifiers that has the name
+abbrev pub pushed : List Identifier → ℕ → List ℕ → Name → List ℕ
+pushed [] d ds x = ds
+pushed (i ∷ is) d ds x = if is_named x i then d ∷ pushed is d ds x else pushed is d ds x
+
+-- those of a name in the open lists, once for each time that it stands in one
+abbrev pub stacked : List (List Identifier) → Name → List ℕ
+stacked [] x = []
+stacked (ns ∷ h) x = pushed ns (suc (length h)) (stacked h x) x
+
+-- the depths without the first
+abbrev pub popped : List ℕ → List ℕ
+popped [] = []
+popped (d ∷ ds) = ds
+
+-- the depths of a name without the first for each of the identifiers that has the name
+abbrev pub taken : List Identifier → List ℕ → Name → List ℕ
+taken [] ds x = ds
+taken (i ∷ is) ds x = taken is (if is_named x i then popped ds else ds) x
+
+-- the table is that of the open lists
+abbrev pub IsTableOf : List (List Identifier) → List Identifier → List (List ℕ) → Type 0
+IsTableOf h ks ds = (x : Name) → depths_in ks ds x ≡ stacked h x

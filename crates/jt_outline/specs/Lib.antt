@@ -1,0 +1,4 @@
+pub mod Marks
+pub mod Outlines
+pub mod View
+pub mod Puts

@@ -1,8 +1,0 @@
-use Rattle.std.proofs.Common.{◌≡◌, ◌-◌, [], ◌∷◌}
-use Rattle.jt_grammar.specs.Reader.{commas_from, word}
-use Rattle.jt_parser.proofs.rules.Rules.more_names.Given as goal
-
-abbrev pub invariant-loop-turn : goal.invariant-loop-turn
-invariant-loop-turn g l =
-    commas_from word [] (λ i is. i ∷ is) l.self.turns l.fn.found l.fn.tokens
-    ≡ commas_from word [] (λ i is. i ∷ is) (l._turn-end - l._turn) l.found l.tokens

@@ -1,5 +1,0 @@
-use Rattle.jt_parser.proofs.Names.{with_all_not}
-use Rattle.jt_parser.proofs.target.is_notified_with_all.Goals as goal
-
-pub returns-then-arguments-ne2 : goal.returns-then-arguments-ne2
-returns-then-arguments-ne2 c = with_all_not c.args.name.now c.args.arguments.now c.if-arguments-ne2.true

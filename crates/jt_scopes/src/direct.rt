@@ -1,0 +1,74 @@
+//! What a body assigns directly.
+
+ghost use Rattle.std.specs.Prelude.{◌≡◌, [], map, IfOk, OnOk};
+ghost use Rattle.jt_names.specs.Names.{add_all};
+ghost use Rattle.jt_outline.specs.Marks as tree;
+ghost use Rattle.jt_outline.specs.View.{mark_view, mark_views, part_view};
+ghost use Rattle.jt_scopes.specs.Bodies as spec;
+ghost use Rattle.jt_scopes.specs.Parts.{part_marks};
+
+use jt_names::Names;
+use jt_outline::{Mark, Part, ScopeKind};
+use jt_syntax::Identifier;
+use std::alloc::{AllocError, Global};
+
+/// Adds the names that are assigned directly in a body: not in a loop and not in a task's body.
+#[cycle(direct)]
+#[tactic(auto, using(crate::proofs::DirectMarks::direct_mark))]
+pub(crate) fn direct(alloc: Global, names: &mut Names, marks: &[Mark]) -> Result<(), AllocError>
+    ensures { OnOk result (names.new ≡ spec.direct names.old (mark_views marks.now)) }
+{
+    for mark in marks {
+        direct_mark(alloc, names, mark)?;
+    }
+    Ok(())
+}
+
+#[cycle(direct)]
+fn direct_mark(alloc: Global, names: &mut Names, mark: &Mark) -> Result<(), AllocError>
+    ensures { OnOk result (names.new ≡ spec.direct names.old (tree.mark (mark_view mark.now) tree.no_marks)) }
+{
+    match mark {
+        Mark::Assignment(name) => names.add(alloc, name),
+        Mark::Scope(scope) => match scope.kind {
+            ScopeKind::Sync => direct(alloc, names, scope.body.as_slice()),
+            ScopeKind::Loop | ScopeKind::Task | ScopeKind::Function | ScopeKind::Script => Ok(()),
+        },
+        Mark::Use(_) | Mark::Interpolation(..) | Mark::Call(..) | Mark::Print => Ok(()),
+        Mark::Macro | Mark::LoopJump(_) | Mark::Return(_) => Ok(()),
+    }
+}
+
+/// These names, and those that are assigned directly in a body, each once.
+pub(crate) fn direct_names(
+    alloc: Global,
+    first: &[Identifier],
+    marks: &[Mark],
+) -> Result<Names, AllocError>
+    ensures { IfOk result (λ names. names ≡ spec.direct (add_all [] first.now) (mark_views marks.now)) }
+{
+    let mut names = Names::from_slice(alloc, first)?;
+    direct(alloc, &mut names, marks)?;
+    Ok(names)
+}
+
+/// What stands in a part of the main task.
+pub(crate) fn marks_of(part: &Part) -> &[Mark]
+    ensures { mark_views result.now ≡ part_marks (part_view part.now) }
+{
+    match part {
+        Part::Constant(_, _, marks) | Part::Statement(marks) => marks.as_slice(),
+    }
+}
+
+/// The names that the main task assigns directly, each once.
+#[tactic(auto, using(crate::proofs::DirectMarks::direct_part))]
+pub(crate) fn script_names(alloc: Global, parts: &[Part]) -> Result<Names, AllocError>
+    ensures { IfOk result (λ names. names ≡ spec.direct_parts [] (map part_view parts.now)) }
+{
+    let mut names = Names::new(alloc);
+    for part in parts {
+        direct(alloc, &mut names, marks_of(part))?;
+    }
+    Ok(names)
+}

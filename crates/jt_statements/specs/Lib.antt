@@ -1,0 +1,4 @@
+pub mod Arms
+pub mod Nests
+pub mod Ranges
+pub mod Statements

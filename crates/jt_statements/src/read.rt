@@ -1,0 +1,137 @@
+//! Expressions and statements with fewer than so many openers open.
+
+ghost use Rattle.jt_grammar.specs.Reader as spec;
+ghost use Rattle.jt_syntax.specs.View.{view, stmt_view, stmt_views};
+ghost use Rattle.jt_cursor.specs.Reads.{Reads};
+ghost use Rattle.jt_expressions.specs.Nested.{nested};
+
+use crate::phrases::Phrases;
+use crate::readers::Readers;
+use jt_cursor::{Cursor, Fault};
+use jt_expressions::Rules;
+use jt_grammar::Level;
+use jt_syntax::{Expr, Stmt};
+use sqlite_items::{Boxed, Items};
+use std::alloc::Global;
+
+/// An expression with fewer than `depth` openers open.
+#[cycle(nesting)]
+fn read(
+    alloc: Global,
+    tokens: &mut Cursor<'_>,
+    turns: usize,
+    depth: usize,
+    level: Level,
+) -> Result<Boxed<Expr>, Fault>
+    ensures { Reads view (spec.read turns depth level tokens.old) result tokens.new }
+{
+    if depth == 0 {
+        return Err(Fault::Spent);
+    }
+    let nested = Readers {
+        expression: read,
+        statement: read_step,
+    };
+    let depth = depth - 1;
+    let rules = Rules {
+        alloc,
+        turns,
+        depth,
+        nested,
+    };
+    Phrases { rules }.rule(tokens, level)
+}
+
+/// A statement with fewer than `depth` openers open.
+#[cycle(nesting)]
+fn read_step(
+    alloc: Global,
+    tokens: &mut Cursor<'_>,
+    turns: usize,
+    depth: usize,
+) -> Result<Stmt, Fault>
+    ensures { Reads stmt_view (spec.read_step turns depth tokens.old) result tokens.new }
+{
+    if depth == 0 {
+        return Err(Fault::Spent);
+    }
+    let nested = Readers {
+        expression: read,
+        statement: read_step,
+    };
+    let depth = depth - 1;
+    let rules = Rules {
+        alloc,
+        turns,
+        depth,
+        nested,
+    };
+    Phrases { rules }.stepped(tokens)
+}
+
+/// Any expression, with no more than `depth` openers open, and no list of more than `turns` parts.
+pub fn whole(
+    alloc: Global,
+    tokens: &mut Cursor<'_>,
+    turns: usize,
+    depth: usize,
+) -> Result<Boxed<Expr>, Fault>
+    ensures { Reads view (nested spec.whole turns depth tokens.old) result tokens.new }
+{
+    let nested = Readers {
+        expression: read,
+        statement: read_step,
+    };
+    let rules = Rules {
+        alloc,
+        turns,
+        depth,
+        nested,
+    };
+    Phrases { rules }.whole(tokens)
+}
+
+/// A statement, with no more than `depth` openers open, and no list of more than `turns` parts.
+pub fn statement(
+    alloc: Global,
+    tokens: &mut Cursor<'_>,
+    turns: usize,
+    depth: usize,
+) -> Result<Stmt, Fault>
+    ensures { Reads stmt_view (nested spec.stepped turns depth tokens.old) result tokens.new }
+{
+    let nested = Readers {
+        expression: read,
+        statement: read_step,
+    };
+    let rules = Rules {
+        alloc,
+        turns,
+        depth,
+        nested,
+    };
+    Phrases { rules }.stepped(tokens)
+}
+
+/// The statements behind the head of a block, up to what ends them, with no more than `depth`
+/// openers open, and no list of more than `turns` parts.
+pub fn tail(
+    alloc: Global,
+    tokens: &mut Cursor<'_>,
+    turns: usize,
+    depth: usize,
+) -> Result<Items<Stmt>, Fault>
+    ensures { Reads stmt_views (nested spec.tail turns depth tokens.old) result tokens.new }
+{
+    let nested = Readers {
+        expression: read,
+        statement: read_step,
+    };
+    let rules = Rules {
+        alloc,
+        turns,
+        depth,
+        nested,
+    };
+    Phrases { rules }.tail(tokens)
+}
