@@ -1,5 +1,4 @@
 pub mod Lookup
-pub mod FunctionLookup
 pub mod TableLaws
 pub mod HolderLaws
 mod Examples

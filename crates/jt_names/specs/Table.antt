@@ -1,16 +1,13 @@
 -- The table behind the open lists: for each name that some list had, the depths of those that are open.
-use Rattle.std.specs.Prelude.{◌≡◌, ℕ, suc, List, [], ◌∷◌, length, reverse, get_or, Option, Some, None, if◌then◌else◌}
+use Rattle.std.specs.Prelude.{◌≡◌, ℕ, suc, List, [], ◌∷◌, length, reverse, unwrap_or, if◌then◌else◌}
+use Rattle.std.specs.declared.vec.Vec.{Vec}
 use Rattle.jt_syntax.specs.declared.script.Identifier.{Identifier}
-use Rattle.jt_names.specs.Names.{Name, is_named, index}
+use Rattle.jt_names.specs.Lookup.{found}
+use Rattle.jt_names.specs.Names.{Name, is_named}
 
--- those of the name with this number, the innermost one first
-abbrev pub listed : List (List ℕ) → Option ℕ → List ℕ
-listed ds None = []
-listed ds (Some n) = reverse (get_or ds n [])
-
--- those of a name, where the names have these numbers
-abbrev pub depths_in : List Identifier → List (List ℕ) → Name → List ℕ
-depths_in ks ds x = listed ds (index ks x)
+-- those of a name, the innermost one first
+abbrev pub depths_in : {Z : Type 0} → List (Vec ℕ Z × List ℕ) → Name → List ℕ
+depths_in es x = reverse (unwrap_or (found es x) [])
 
 -- the depths of a name, and before them this depth for each of the identifiers that has the name
 abbrev pub pushed : List Identifier → ℕ → List ℕ → Name → List ℕ
@@ -33,5 +30,5 @@ taken [] ds x = ds
 taken (i ∷ is) ds x = taken is (if is_named x i then popped ds else ds) x
 
 -- the table is that of the open lists
-abbrev pub IsTableOf : List (List Identifier) → List Identifier → List (List ℕ) → Type 0
-IsTableOf h ks ds = (x : Name) → depths_in ks ds x ≡ stacked h x
+abbrev pub IsTableOf : {Z : Type 0} → List (List Identifier) → List (Vec ℕ Z × List ℕ) → Type 0
+IsTableOf h es = (x : Name) → depths_in es x ≡ stacked h x

@@ -1,11 +1,10 @@
 //! The functions of a script with their names.
 
-ghost use Rattle.std.specs.Prelude.{◌≡◌, [], ◌∷◌, ◌++◌, length, None, OnOk, OnErr};
+ghost use Rattle.std.specs.Prelude.{◌≡◌, [], ◌∷◌, ◌++◌, length, OnOk, OnErr};
 ghost use Rattle.std.specs.Option.{option_copied};
-ghost use Rattle.jt_names.specs.Lookup.{signature_at};
 ghost use Rattle.jt_names.specs.Tops as spec;
 
-use indexmap::IndexMap;
+use crate::firsts::Firsts;
 use jt_syntax::Identifier;
 use sqlite_items::Items;
 use std::alloc::{AllocError, Global};
@@ -23,20 +22,19 @@ pub struct Signature {
 #[derive(Drop)]
 pub struct Functions {
     list: Items<Signature>,
-    /// Of each name, how many functions stand before the first one that has it.
-    firsts: IndexMap<Vec<u8>, usize>,
+    firsts: Firsts,
 }
 
 impl Model for Functions {
     ghost use Rattle.std.specs.Prelude.{List};
     ghost use Rattle.jt_names.specs.declared.functions.Signature.{Signature};
-    ghost use Rattle.jt_names.specs.Lookup.{AreFirstsOf};
+    ghost use Rattle.jt_names.specs.Lookup.{AreFirstsOf, names_of};
 
     ghost Value = { List Signature };
 
     ghost view = { λ f. f.list };
 
-    ghost invariant = { λ f. AreFirstsOf f.firsts.entries f.list };
+    ghost invariant = { λ f. AreFirstsOf f.firsts.places.entries (names_of f.list) };
 }
 
 impl Functions {
@@ -46,7 +44,7 @@ impl Functions {
     {
         Functions {
             list: Items::new(alloc),
-            firsts: IndexMap::new(alloc),
+            firsts: Firsts::new(alloc),
         }
     }
 
@@ -61,21 +59,14 @@ impl Functions {
     pub fn index(&self, name: &[u8]) -> Option<usize>
         ensures { result ≡ spec.function_index self.now name.now }
     {
-        Some(*self.firsts.get(name)?)
+        self.firsts.get(name)
     }
 
     /// The first function of this name.
     pub fn get(&self, name: &[u8]) -> Option<&Signature>
         ensures { option_copied result ≡ spec.signature_of self.now name.now }
     {
-        let index = self.index(name);
-        self.at(index)
-    }
-
-    fn at(&self, index: Option<usize>) -> Option<&Signature>
-        ensures { option_copied result ≡ signature_at self.now index }
-    {
-        self.list.get(index?)
+        self.list.get(self.index(name)?)
     }
 
     /// Where the name of that function stands.
@@ -99,30 +90,16 @@ impl Functions {
         ensures ok { OnOk result (self.new ≡ self.old ++ record { name = name.now; parameters = parameters } ∷ []) }
         ensures err { OnErr result (self.new ≡ self.old) }
     {
-        let name = name.copied(alloc)?;
-        let function = Signature { name, parameters };
-        match self.index(function.name.name.as_slice()) {
-            Some(_) => {
-                self.list.push(function)?;
-                Ok(())
-            }
-            None => self.push_first(alloc, function),
-        }
-    }
-
-    /// Puts a function behind them whose name none of them has.
-    fn push_first(&mut self, alloc: Global, function: Signature) -> Result<(), AllocError>
-        requires { spec.function_index self.old function.name.name ≡ None }
-        ensures ok { OnOk result (self.new ≡ self.old ++ function ∷ []) }
-        ensures err { OnErr result (self.new ≡ self.old) }
-    {
-        let key = Vec::from_slice(alloc, function.name.name.as_slice())?;
         let index = self.list.len();
-        self.firsts.reserve(1)?;
+        let function = Signature {
+            name: name.copied(alloc)?,
+            parameters,
+        };
         self.list.push(function)?;
-        match self.firsts.insert(key, index) {
-            Ok(_) => Ok(()),
-            Err(_) => unreachable!(),
+        if let Err(error) = self.firsts.add(name.name.as_slice(), index) {
+            self.list.pop();
+            return Err(error);
         }
+        Ok(())
     }
 }

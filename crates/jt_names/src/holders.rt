@@ -4,7 +4,7 @@ ghost use Rattle.std.specs.Prelude.{◌≡◌, [], ◌∷◌, drop, length, IfOk
 ghost use Rattle.jt_names.specs.Holding as spec;
 
 use crate::names::Names;
-use crate::table::{Table, last, last_within};
+use crate::table::{Table, last_within};
 use jt_syntax::Identifier;
 use sqlite_items::Items;
 use std::alloc::{AllocError, Global};
@@ -30,7 +30,7 @@ impl Model for Holders {
 
     ghost view = { λ h. reverse h.lists };
 
-    ghost invariant = { λ h. IsTableOf (reverse h.lists) h.table.names h.table.depths.items };
+    ghost invariant = { λ h. IsTableOf (reverse h.lists) h.table.depths.entries };
 }
 
 impl Holders {
@@ -53,11 +53,11 @@ impl Holders {
     }
 
     /// The depth of the innermost list that has the name, 0 where none has it.
-    #[tactic(auto, using(crate::proofs::HolderLaws::innermost_told))]
+    #[tactic(auto, using(crate::proofs::HolderLaws::all_within))]
     pub fn innermost(&self, name: &[u8]) -> usize
         ensures { result ≡ spec.innermost self.now name.now }
     {
-        last(self.table.depths_of(name))
+        self.innermost_within(self.len(), name)
     }
 
     /// The depth of the innermost of the outermost `depth` lists that has the name, 0 where none of
@@ -78,16 +78,13 @@ impl Holders {
         ensures ok { OnOk result (self.new ≡ names.now ∷ self.old) }
         ensures err { OnErr result (self.new ≡ self.old) }
     {
-        let list = copied_all(self.alloc, names.as_slice())?;
-        let depth = self.lists.len().checked_add(1).ok_or(AllocError)?;
-        self.table.put_all(names.as_slice(), depth)?;
-        match self.lists.push(list) {
-            Ok(()) => Ok(()),
-            Err(error) => {
-                self.table.take_all(names.as_slice());
-                Err(error)
-            }
+        self.lists.push(copied_all(self.alloc, names.as_slice())?)?;
+        let depth = self.lists.len();
+        if let Err(error) = self.table.put_all(names.as_slice(), depth) {
+            self.lists.pop();
+            return Err(error);
         }
+        Ok(())
     }
 
     /// Closes the innermost list, if one is open.

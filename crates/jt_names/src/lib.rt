@@ -1,6 +1,7 @@
 //! Lists of names and functions that are found by name at once.
 #![tactic(auto)]
 
+mod firsts;
 mod functions;
 mod holders;
 mod names;

@@ -1,10 +1,9 @@
 //! Names with the places where they first stand.
 
-ghost use Rattle.std.specs.Prelude.{◌≡◌, [], ◌∷◌, ◌++◌, length, false, IfOk, OnOk, OnErr};
-ghost use Rattle.jt_names.specs.Lookup.{place_at};
+ghost use Rattle.std.specs.Prelude.{◌≡◌, [], length, OnOk, OnErr};
 ghost use Rattle.jt_names.specs.Names as spec;
 
-use indexmap::IndexSet;
+use crate::firsts::Firsts;
 use jt_syntax::Identifier;
 use sqlite_items::Items;
 use std::alloc::{AllocError, Global};
@@ -15,20 +14,19 @@ use std::marker::Model;
 #[derive(Drop)]
 pub struct Names {
     list: Items<Identifier>,
-    /// The same names in the same order.
-    keys: IndexSet<Vec<u8>>,
+    firsts: Firsts,
 }
 
 impl Model for Names {
     ghost use Rattle.std.specs.Prelude.{List};
     ghost use Rattle.jt_syntax.specs.declared.script.Identifier.{Identifier};
-    ghost use Rattle.jt_names.specs.Lookup.{AreNamesOf};
+    ghost use Rattle.jt_names.specs.Lookup.{AreFirstsOf};
 
     ghost Value = { List Identifier };
 
     ghost view = { λ n. n.list };
 
-    ghost invariant = { λ n. AreNamesOf n.keys.keys n.list };
+    ghost invariant = { λ n. AreFirstsOf n.firsts.places.entries n.list };
 }
 
 impl Names {
@@ -38,23 +36,8 @@ impl Names {
     {
         Names {
             list: Items::new(alloc),
-            keys: IndexSet::new(alloc),
+            firsts: Firsts::new(alloc),
         }
-    }
-
-    /// These names, each once.
-    ///
-    /// # Errors
-    ///
-    /// Where memory is wanting.
-    pub fn from_slice(alloc: Global, identifiers: &[Identifier]) -> Result<Names, AllocError>
-        ensures { IfOk result (λ names. names ≡ spec.add_all [] identifiers.now) }
-    {
-        let mut names = Names::new(alloc);
-        for identifier in identifiers {
-            names.add(alloc, identifier)?;
-        }
-        Ok(names)
     }
 
     /// The names in order, with their places.
@@ -72,34 +55,25 @@ impl Names {
     }
 
     /// Whether the name is among them.
-    #[tactic(auto, using(crate::proofs::Lookup::member_key))]
+    #[tactic(auto, using(crate::proofs::Lookup::has_index))]
     pub fn has(&self, name: &[u8]) -> bool
         ensures { result ≡ spec.member self.now name.now }
     {
-        self.keys.contains(name)
+        self.index(name).is_some()
     }
 
     /// How many names stand before this one, if it is among them.
-    #[tactic(auto, using(crate::proofs::Lookup::index_key))]
     pub fn index(&self, name: &[u8]) -> Option<usize>
         ensures { result ≡ spec.index self.now name.now }
     {
-        self.keys.get_index_of(name)
+        self.firsts.get(name)
     }
 
     /// Where this name stood when it was added.
-    #[tactic(auto, using(crate::proofs::Lookup::place_found))]
     pub fn place_of(&self, name: &[u8]) -> Option<u32>
         ensures { result ≡ spec.place_of self.now name.now }
     {
-        let index = self.index(name);
-        self.place_at(index)
-    }
-
-    fn place_at(&self, index: Option<usize>) -> Option<u32>
-        ensures { result ≡ place_at self.now index }
-    {
-        Some(self.list.get(index?)?.at)
+        Some(self.list.get(self.index(name)?)?.at)
     }
 
     /// Adds the name, where it is not among them.
@@ -111,26 +85,31 @@ impl Names {
         ensures ok { OnOk result (self.new ≡ spec.add self.old identifier.now) }
         ensures err { OnErr result (self.new ≡ self.old) }
     {
-        if self.has(identifier.name.as_slice()) {
+        let name = identifier.name.as_slice();
+        if self.has(name) {
             return Ok(());
         }
-        self.put(alloc, identifier)
+        let index = self.list.len();
+        self.list.push(identifier.copied(alloc)?)?;
+        if let Err(error) = self.firsts.add(name, index) {
+            self.list.pop();
+            return Err(error);
+        }
+        Ok(())
     }
 
-    /// Puts a name behind them that is not among them.
-    fn put(&mut self, alloc: Global, identifier: &Identifier) -> Result<(), AllocError>
-        requires { spec.member self.old identifier.now.name ≡ false }
-        ensures ok { OnOk result (self.new ≡ self.old ++ identifier.now ∷ []) }
-        ensures err { OnErr result (self.new ≡ self.old) }
+    /// Adds each of these names, where it is not among them.
+    ///
+    /// # Errors
+    ///
+    /// Where memory is wanting.
+    pub fn add_all(&mut self, alloc: Global, identifiers: &[Identifier]) -> Result<(), AllocError>
+        ensures { OnOk result (self.new ≡ spec.add_all self.old identifiers.now) }
     {
-        let key = Vec::from_slice(alloc, identifier.name.as_slice())?;
-        let last = identifier.copied(alloc)?;
-        self.keys.reserve(1)?;
-        self.list.push(last)?;
-        match self.keys.insert(key) {
-            Ok(_) => Ok(()),
-            Err(_) => unreachable!(),
+        for identifier in identifiers {
+            self.add(alloc, identifier)?;
         }
+        Ok(())
     }
 }
 

@@ -36,14 +36,10 @@ pub fn signatures_of(alloc: Global, tops: &[Top]) -> Result<Functions, AllocErro
 {
     let mut functions = Functions::new(alloc);
     for top in tops {
-        match &top.form {
-            TopForm::Function(name, parameters, _) => {
-                functions.push(alloc, name, parameters.len())?;
-            }
-            TopForm::ShortFunction(name, parameters, _) => {
-                functions.push(alloc, name, parameters.len())?;
-            }
-            TopForm::Using | TopForm::Constant(..) | TopForm::Stmt(_) => {}
+        if let TopForm::Function(name, parameters, _)
+        | TopForm::ShortFunction(name, parameters, _) = &top.form
+        {
+            functions.push(alloc, name, parameters.len())?;
         }
     }
     Ok(functions)

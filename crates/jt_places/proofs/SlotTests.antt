@@ -3,7 +3,7 @@ use Rattle.std.proofs.Common.{◌≡◌, ℕ, suc, ◌<◌, ◌≤◌, nat_lt, B
 use Rattle.jt_syntax.specs.declared.script.Identifier.{Identifier}
 use Rattle.jt_names.specs.Holding.{innermost}
 use Rattle.jt_names.specs.Names.{Name, index}
-use Rattle.jt_names.proofs.TableLaws.{Indexed, indexed}
+use Rattle.jt_names.proofs.Lookup.{Indexed, indexed}
 use Rattle.jt_scopes.specs.declared.scope.Scope.{Scope}
 use Rattle.jt_scopes.specs.Scopes.{is_inner, has}
 use Rattle.jt_places.specs.declared.standing.Standing.{Standing}

@@ -3,7 +3,7 @@
 use Rattle.std.proofs.Common.{◌≡◌, ℕ, zero, suc, ◌<◌, ◌≤◌, Bool, true, false, List, [], ◌∷◌, length, Option, Some, None, option_map, refl, sym, ap, ◌∙◌, arith}
 use Rattle.std.specs.Prelude.{if◌then◌else◌}
 use Rattle.jt_names.specs.Names.{Name, index}
-use Rattle.jt_names.proofs.TableLaws.{index_below}
+use Rattle.jt_names.proofs.Lookup.{index_below}
 use Rattle.jt_scopes.specs.declared.scope.Scope.{Scope}
 use Rattle.jt_scopes.specs.Scopes.{is_inner}
 use Rattle.jt_places.specs.Slots as slots

@@ -1,12 +1,11 @@
 -- The numbers of names that are found, set, cleared and set back.
 use Rattle.std.proofs.Common.{◌≡◌, ℕ, nat_eq, Bool, true, false, ◌||◌, List, [], ◌∷◌, map, Option, Some, None, refl, sym, ap, ◌∙◌, if◌then◌else◌, cond, suc, zero, ◌+◌, ◌<◌, length, drop, get_or, drop-cons, arith}
-use Rattle.std.specs.Cmp.Lexicographic.{pointwise, bytes_decides}
+use Rattle.std.specs.Cmp.Lexicographic.{pointwise, bytes_decides, nat_list_eq_equiv}
 use Rattle.std.specs.Map.{lookup}
 use Rattle.std.specs.declared.vec.Vec.{Vec}
 use Rattle.indexmap.specs.IndexMap.{insert_entry}
 use Rattle.jt_syntax.specs.declared.script.Identifier.{Identifier}
 use Rattle.jt_names.specs.Names.{Name, is_named, member}
-use Rattle.jt_names.proofs.Lookup.{test_same}
 use Rattle.jt_scopes.specs.Counting.{number, with_number, cleared, restored, first_number, later_numbers}
 use Rattle.jt_scopes.proofs.Members.{named_same}
 
@@ -45,7 +44,7 @@ number_put es news k i v h n = ap (map (λ e. (e.0.items, e.1))) n ∙ put_under
 -- ---- numbers of names
 
 same_test : (x : Name) (i : Identifier) → pointwise nat_eq x i.name ≡ is_named x i
-same_test x i = test_same x i.name i.name refl
+same_test x i = nat_list_eq_equiv.symm x i.name
 
 pub number_with : (es : List (Name × ℕ)) (i : Identifier) (v : ℕ) (x : Name) → number (with_number es i v) x ≡ (if is_named x i then v else number es x)
 number_with [] i v x = ap (λ z. if z then v else 0) (same_test x i)

@@ -1,9 +1,9 @@
 -- What is known of a name at a place shows in the depth of the innermost list that has it.
-use Rattle.std.proofs.Common.{◌≡◌, ℕ, suc, ◌≤◌, ◌<◌, nat_lt, Bool, true, false, not, ◌&&◌, ◌||◌, List, [], ◌∷◌, length, map, if◌then◌else◌, arith}
+use Rattle.std.proofs.Common.{◌≡◌, ℕ, ◌≤◌, ◌<◌, nat_lt, true, false, List, [], ◌∷◌, length, map, if◌then◌else◌, arith}
 use Rattle.std.proofs.lemmas.Bool.Decides.{nat_tests}
 use Rattle.jt_syntax.specs.declared.script.Identifier.{Identifier}
-use Rattle.jt_names.specs.Names.{Name, member}
-use Rattle.jt_names.specs.Holding.{depths, first_of, innermost}
+use Rattle.jt_names.specs.Names.{Name}
+use Rattle.jt_names.specs.Holding.{innermost}
 use Rattle.jt_scopes.specs.declared.scope.Scope.{Scope}
 use Rattle.jt_scopes.specs.Scopes.{is_inner, is_function, had, text_has}
 use Rattle.jt_scopes.specs.Settling.{is_within}

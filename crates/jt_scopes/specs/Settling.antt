@@ -61,7 +61,11 @@ opened s ns = record s { holders = ns ∷ s.holders; counts = cleared s.counts n
 
 -- what is kept of it until it ends
 abbrev pub open_scope : Settling → ScopeKind → ℕ → List Identifier → Open
-open_scope s k at ns = record { kind = k; at = at; index = length s.scopes; names = ns; numbers = map (λ (i : Identifier). number s.counts i.name) ns }
+open_scope s k at ns = record { index = length s.scopes; scope = record { kind = k; at = at; names = ns; again = []; captures = [] }; numbers = map (λ (i : Identifier). number s.counts i.name) ns }
+
+-- what is known of a scope that is to begin next
+abbrev pub next_scope : Settling → ScopeKind → ℕ → Open
+next_scope s k at = record { index = length s.scopes; scope = record { kind = k; at = at; names = []; again = []; captures = [] }; numbers = [] }
 
 -- a scope with these names is left; the numbers are those before it
 abbrev pub left : List Identifier → List ℕ → Settling → Settling
@@ -77,7 +81,7 @@ placed i r s = record s { scopes = slice_set s.scopes i r }
 
 -- a scope ends
 abbrev pub closed : ℕ → Open → Settling → Settling
-closed t o s = placed o.index (finished t s (record { kind = o.kind; at = o.at; names = o.names; again = []; captures = [] })) (left o.names o.numbers s)
+closed t o s = placed o.index (finished t s o.scope) (left o.scope.names o.numbers s)
 
 -- a scope in the body b begins, and its variables are assigned
 abbrev pub begun_in : ℕ → ScopeKind → List Identifier → Marks → Settling → Settling
@@ -141,5 +145,9 @@ abbrev pub walked_parts : Settling → List PartTree → Settling
 walked_parts s [] = s
 walked_parts s (p ∷ ps) = walked_parts (walked 0 0 s (part_marks p)) ps
 
+-- over what stands in the script's own scope
+abbrev pub walked_body : Settling → OutlineTree → Settling
+walked_body s o = walked_parts (walked_functions (opened s (direct_parts [] o.parts)) o.functions) o.parts
+
 abbrev pub walked_script : Settling → OutlineTree → Settling
-walked_script s o = closed 0 (open_scope s kind.Script 0 (direct_parts [] o.parts)) (walked_parts (walked_functions (opened s (direct_parts [] o.parts)) o.functions) o.parts)
+walked_script s o = closed 0 (open_scope s kind.Script 0 (direct_parts [] o.parts)) (walked_body s o)

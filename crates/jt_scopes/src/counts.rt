@@ -1,6 +1,6 @@
 //! How often names were assigned.
 
-ghost use Rattle.std.specs.Prelude.{◌≡◌, map, drop, [], IfOk, OnOk};
+ghost use Rattle.std.specs.Prelude.{◌≡◌, ◌++◌, map, drop, [], OnOk};
 ghost use Rattle.jt_syntax.specs.declared.script.Identifier.{Identifier as Item};
 ghost use Rattle.jt_names.specs.Names.{add_where};
 ghost use Rattle.jt_scopes.specs.Counting as spec;
@@ -45,10 +45,7 @@ impl Counts {
     fn get(&self, name: &[u8]) -> u8
         ensures { result ≡ spec.number self.now name.now }
     {
-        match self.numbers.get(name) {
-            None => 0,
-            Some(number) => *number,
-        }
+        self.numbers.get(name).copied().unwrap_or(0)
     }
 
     /// From now on the name was assigned so often.
@@ -68,15 +65,18 @@ impl Counts {
         self.set(name, number.saturating_add(1))
     }
 
-    /// How often each of these was assigned.
-    pub(crate) fn numbers_of(&self, names: &[Identifier]) -> Result<Items<u8>, AllocError>
-        ensures { IfOk result (λ numbers. numbers ≡ map (λ (i : Item). spec.number self.now i.name) names.now) }
+    /// Adds how often each of these was assigned.
+    pub(crate) fn add_numbers(
+        &self,
+        numbers: &mut Items<u8>,
+        names: &[Identifier],
+    ) -> Result<(), AllocError>
+        ensures { OnOk result (numbers.new ≡ numbers.old ++ map (λ (i : Item). spec.number self.now i.name) names.now) }
     {
-        let mut numbers = Items::new(self.alloc);
         for name in names {
             numbers.push(self.get(name.name.as_slice()))?;
         }
-        Ok(numbers)
+        Ok(())
     }
 
     /// From now on each of these was assigned as often as these numbers say, and never where there is no
@@ -90,17 +90,20 @@ impl Counts {
         Ok(())
     }
 
-    /// Those of the names that were assigned more than once.
-    pub(crate) fn again(&self, names: &[Identifier]) -> Result<Names, AllocError>
-        ensures { IfOk result (λ again. again ≡ add_where (spec.is_again self.now) [] names.now) }
+    /// Adds those of the names that were assigned more than once.
+    pub(crate) fn add_again(
+        &self,
+        again: &mut Names,
+        names: &[Identifier],
+    ) -> Result<(), AllocError>
+        ensures { OnOk result (again.new ≡ add_where (spec.is_again self.now) again.old names.now) }
     {
-        let mut again = Names::new(self.alloc);
         for name in names {
             if self.get(name.name.as_slice()) > 1 {
                 again.add(self.alloc, name)?;
             }
         }
-        Ok(again)
+        Ok(())
     }
 }
 
@@ -108,8 +111,5 @@ impl Counts {
 fn number_at(numbers: &[u8], index: usize) -> u8
     ensures { result ≡ spec.first_number (drop index numbers.now) }
 {
-    match numbers.get(index) {
-        None => 0,
-        Some(number) => *number,
-    }
+    numbers.get(index).copied().unwrap_or(0)
 }

@@ -1,7 +1,6 @@
 //! What a body assigns directly.
 
-ghost use Rattle.std.specs.Prelude.{◌≡◌, [], map, IfOk, OnOk};
-ghost use Rattle.jt_names.specs.Names.{add_all};
+ghost use Rattle.std.specs.Prelude.{◌≡◌, [], map, OnOk};
 ghost use Rattle.jt_outline.specs.Marks as tree;
 ghost use Rattle.jt_outline.specs.View.{mark_view, mark_views, part_view};
 ghost use Rattle.jt_scopes.specs.Bodies as spec;
@@ -9,7 +8,6 @@ ghost use Rattle.jt_scopes.specs.Parts.{part_marks};
 
 use jt_names::Names;
 use jt_outline::{Mark, Part, ScopeKind};
-use jt_syntax::Identifier;
 use std::alloc::{AllocError, Global};
 
 /// Adds the names that are assigned directly in a body: not in a loop and not in a task's body.
@@ -39,19 +37,6 @@ fn direct_mark(alloc: Global, names: &mut Names, mark: &Mark) -> Result<(), Allo
     }
 }
 
-/// These names, and those that are assigned directly in a body, each once.
-pub(crate) fn direct_names(
-    alloc: Global,
-    first: &[Identifier],
-    marks: &[Mark],
-) -> Result<Names, AllocError>
-    ensures { IfOk result (λ names. names ≡ spec.direct (add_all [] first.now) (mark_views marks.now)) }
-{
-    let mut names = Names::from_slice(alloc, first)?;
-    direct(alloc, &mut names, marks)?;
-    Ok(names)
-}
-
 /// What stands in a part of the main task.
 pub(crate) fn marks_of(part: &Part) -> &[Mark]
     ensures { mark_views result.now ≡ part_marks (part_view part.now) }
@@ -61,14 +46,17 @@ pub(crate) fn marks_of(part: &Part) -> &[Mark]
     }
 }
 
-/// The names that the main task assigns directly, each once.
+/// Adds the names that the main task assigns directly.
 #[tactic(auto, using(crate::proofs::DirectMarks::direct_part))]
-pub(crate) fn script_names(alloc: Global, parts: &[Part]) -> Result<Names, AllocError>
-    ensures { IfOk result (λ names. names ≡ spec.direct_parts [] (map part_view parts.now)) }
+pub(crate) fn add_script_names(
+    alloc: Global,
+    names: &mut Names,
+    parts: &[Part],
+) -> Result<(), AllocError>
+    ensures { OnOk result (names.new ≡ spec.direct_parts names.old (map part_view parts.now)) }
 {
-    let mut names = Names::new(alloc);
     for part in parts {
-        direct(alloc, &mut names, marks_of(part))?;
+        direct(alloc, names, marks_of(part))?;
     }
-    Ok(names)
+    Ok(())
 }

@@ -1,15 +1,16 @@
 //! The scopes of a script, in one pass over its outline.
 
-ghost use Rattle.std.specs.Prelude.{◌≡◌, [], not, map, IfOk, OnOk};
-ghost use Rattle.jt_names.specs.Names.{add_all, add_where};
+ghost use Rattle.std.specs.Prelude.{◌≡◌, [], length, not, map, IfOk, OnOk};
+ghost use Rattle.jt_names.specs.Names.{add_where};
 ghost use Rattle.jt_outline.specs.declared.mark.ScopeKind.TheVariants as kind;
 ghost use Rattle.jt_outline.specs.Marks as tree;
 ghost use Rattle.jt_outline.specs.View.{mark_view, mark_views, scope_view, function_view, part_view, outline_view};
+ghost use Rattle.jt_scopes.specs.Bodies.{direct_parts};
 ghost use Rattle.jt_scopes.specs.Scopes.{scopes_of};
 ghost use Rattle.jt_scopes.specs.Settling as spec;
 
 use crate::counts::Counts;
-use crate::direct::{direct_names, marks_of, script_names};
+use crate::direct::{add_script_names, direct, marks_of};
 use crate::scope::Scope;
 use jt_names::{Holders, Names};
 use jt_outline::{FunctionMark, Mark, Outline, Part, ScopeKind, ScopeMark};
@@ -33,14 +34,13 @@ pub(crate) struct Settling {
     scopes: Items<Scope>,
 }
 
-/// A scope that is open.
+/// A scope that is open, or is to begin next.
 #[derive(Drop)]
 pub(crate) struct Open {
-    kind: ScopeKind,
-    at: u32,
     /// How many scopes began before it.
     index: usize,
-    names: Names,
+    /// What is known of it so far: its kind, its place and its names.
+    scope: Scope,
     /// How often each of the names was assigned before it, as a variable of a scope round it.
     numbers: Items<u8>,
 }
@@ -52,6 +52,9 @@ pub(crate) struct Head<'a> {
     at: u32,
     variables: &'a [Identifier],
 }
+
+/// What a step of the pass gives back: an error where memory is wanting.
+type Step = Result<(), AllocError>;
 
 /// All scopes of a script, in the order in which they begin: its own first, then those of its functions,
 /// then those of the main task. The time grows with the outline and with the captures alone, whatever is
@@ -69,13 +72,13 @@ pub fn settle(alloc: Global, outline: &Outline) -> Result<Items<Scope>, AllocErr
     scopes
 }
 
-/// The place of a scope that is open.
-fn empty_scope(alloc: Global) -> Scope
-    ensures { result ≡ spec.empty_scope }
+/// A scope with no names.
+fn empty_scope(alloc: Global, kind: ScopeKind, at: u32) -> Scope
+    ensures { result ≡ record { kind = kind; at = at; names = []; again = []; captures = [] } }
 {
     Scope {
-        kind: ScopeKind::Script,
-        at: 0,
+        kind,
+        at,
         names: Names::new(alloc),
         again: Names::new(alloc),
         captures: Names::new(alloc),
@@ -133,64 +136,65 @@ impl Settling {
         }
     }
 
-    /// The variables of a loop in this body, and what is assigned in it that no scope of the body has.
-    fn loop_names(&self, body: usize, head: &Head, marks: &[Mark]) -> Result<Names, AllocError>
-        ensures { IfOk result (λ names. names ≡ spec.names_in body self.now.holders kind.Loop head.now.variables.now (mark_views marks.now)) }
+    /// Adds the variables of a loop in this body, and what is assigned in it that no scope of the body
+    /// has.
+    fn add_loop_names(&self, names: &mut Names, body: usize, head: &Head, marks: &[Mark]) -> Step
+        requires { names.old ≡ [] }
+        ensures { OnOk result (names.new ≡ spec.names_in body self.now.holders kind.Loop head.now.variables.now (mark_views marks.now)) }
     {
-        let assigned = direct_names(self.alloc, &[], marks)?;
-        let mut names = Names::from_slice(self.alloc, head.variables)?;
-        add_outside(
-            self.alloc,
-            &self.holders,
-            body,
-            &mut names,
-            assigned.as_slice(),
-        )?;
-        Ok(names)
+        names.add_all(self.alloc, head.variables)?;
+        let mut assigned = Names::new(self.alloc);
+        direct(self.alloc, &mut assigned, marks)?;
+        add_outside(self.alloc, &self.holders, body, names, assigned.as_slice())
     }
 
-    /// The names of a scope in this body.
-    fn names_of(&self, body: usize, head: &Head, marks: &[Mark]) -> Result<Names, AllocError>
-        ensures { IfOk result (λ names. names ≡ spec.names_in body self.now.holders head.now.kind head.now.variables.now (mark_views marks.now)) }
+    /// Adds the names of a scope in this body.
+    fn add_names(&self, names: &mut Names, body: usize, head: &Head, marks: &[Mark]) -> Step
+        requires { names.old ≡ [] }
+        ensures { OnOk result (names.new ≡ spec.names_in body self.now.holders head.now.kind head.now.variables.now (mark_views marks.now)) }
     {
         match head.kind {
-            ScopeKind::Sync => Ok(Names::new(self.alloc)),
-            ScopeKind::Loop => self.loop_names(body, head, marks),
-            ScopeKind::Task => direct_names(self.alloc, &[], marks),
+            ScopeKind::Sync => Ok(()),
+            ScopeKind::Loop => self.add_loop_names(names, body, head, marks),
+            ScopeKind::Task => direct(self.alloc, names, marks),
             ScopeKind::Function | ScopeKind::Script => {
-                direct_names(self.alloc, head.variables, marks)
+                names.add_all(self.alloc, head.variables)?;
+                direct(self.alloc, names, marks)
             }
         }
     }
 
-    /// Takes the place of a scope with these names.
-    fn enter(&mut self, names: &Names) -> Result<(), AllocError>
-        ensures { OnOk result (self.new ≡ spec.opened self.old names.now) }
+    /// A scope that is to begin next.
+    fn next_scope(&self, kind: ScopeKind, at: u32) -> Open
+        ensures { result ≡ spec.next_scope self.now kind at }
     {
-        self.counts.restore(names.as_slice(), &[])?;
-        self.holders.enter(names)?;
-        self.scopes.push(empty_scope(self.alloc))
+        Open {
+            index: self.scopes.len(),
+            scope: empty_scope(self.alloc, kind, at),
+            numbers: Items::new(self.alloc),
+        }
     }
 
-    /// Opens a scope with these names.
-    fn start(&mut self, kind: ScopeKind, at: u32, names: Names) -> Result<Open, AllocError>
-        ensures scope { IfOk result (λ o. o ≡ spec.open_scope self.old kind at names) }
-        ensures after { OnOk result (self.new ≡ spec.opened self.old names) }
+    /// Opens a scope that is to begin next and has its names.
+    fn start(&mut self, begun: &mut Open) -> Step
+        requires index { begun.old.index ≡ length self.old.scopes }
+        requires again { begun.old.scope.again ≡ [] }
+        requires captures { begun.old.scope.captures ≡ [] }
+        requires numbers { begun.old.numbers ≡ [] }
+        ensures scope { OnOk result (begun.new ≡ spec.open_scope self.old begun.old.scope.kind begun.old.scope.at begun.old.scope.names) }
+        ensures after { OnOk result (self.new ≡ spec.opened self.old begun.old.scope.names) }
     {
-        let index = self.scopes.len();
-        let numbers = self.counts.numbers_of(names.as_slice())?;
-        self.enter(&names)?;
-        Ok(Open {
-            kind,
-            at,
-            index,
-            names,
-            numbers,
-        })
+        let names = &begun.scope.names;
+        self.counts
+            .add_numbers(&mut begun.numbers, names.as_slice())?;
+        self.counts.restore(names.as_slice(), &[])?;
+        self.holders.enter(names)?;
+        let place = empty_scope(self.alloc, ScopeKind::Script, 0);
+        self.scopes.push(place)
     }
 
     /// The use of a name in this body.
-    fn note_use(&mut self, body: usize, name: &Identifier) -> Result<(), AllocError>
+    fn note_use(&mut self, body: usize, name: &Identifier) -> Step
         ensures { OnOk result (self.new ≡ spec.with_use body self.old name.now) }
     {
         if is_within(&self.holders, body, name.name.as_slice()) {
@@ -200,14 +204,14 @@ impl Settling {
     }
 
     #[tactic(auto, unfolding(crate::specs::Settling::with_uses))]
-    fn note_uses(&mut self, body: usize, names: &[Identifier]) -> Result<(), AllocError>
+    fn note_uses(&mut self, body: usize, names: &[Identifier]) -> Step
         ensures { OnOk result (self.new ≡ spec.with_uses body self.old names.now) }
     {
         add_outside(self.alloc, &self.holders, body, &mut self.taken, names)
     }
 
     /// An assignment to a name in this body.
-    fn note_assignment(&mut self, body: usize, name: &Identifier) -> Result<(), AllocError>
+    fn note_assignment(&mut self, body: usize, name: &Identifier) -> Step
         ensures { OnOk result (self.new ≡ spec.with_assignment body self.old name.now) }
     {
         if is_within(&self.holders, body, name.name.as_slice()) {
@@ -216,7 +220,7 @@ impl Settling {
         Ok(())
     }
 
-    fn note_assignments(&mut self, body: usize, names: &[Identifier]) -> Result<(), AllocError>
+    fn note_assignments(&mut self, body: usize, names: &[Identifier]) -> Step
         ensures { OnOk result (self.new ≡ spec.with_assignments body self.old names.now) }
     {
         for name in names {
@@ -225,54 +229,54 @@ impl Settling {
         Ok(())
     }
 
-    /// Opens a scope in this body, and assigns its variables.
-    fn begin(&mut self, body: usize, head: &Head, marks: &[Mark]) -> Result<Open, AllocError>
-        ensures scope { IfOk result (λ o. o ≡ spec.open_scope self.old head.now.kind head.now.at (spec.names_in body self.old.holders head.now.kind head.now.variables.now (mark_views marks.now))) }
+    /// Opens a scope in this body that is to begin next, and assigns its variables.
+    fn begin(&mut self, begun: &mut Open, body: usize, head: &Head, marks: &[Mark]) -> Step
+        requires { begun.old ≡ spec.next_scope self.old head.now.kind head.now.at }
+        ensures scope { OnOk result (begun.new ≡ spec.open_scope self.old head.now.kind head.now.at (spec.names_in body self.old.holders head.now.kind head.now.variables.now (mark_views marks.now))) }
         ensures after { OnOk result (self.new ≡ spec.begun_in body head.now.kind head.now.variables.now (mark_views marks.now) self.old) }
     {
-        let names = self.names_of(body, head, marks)?;
-        let scope = self.start(head.kind, head.at, names)?;
-        self.note_assignments(body, variables_of(head.kind, head.variables))?;
-        Ok(scope)
+        self.add_names(&mut begun.scope.names, body, head, marks)?;
+        self.start(begun)?;
+        self.note_assignments(body, variables_of(head.kind, head.variables))
     }
 
-    /// Those of the names that the innermost body takes which a scope further in than the outermost
-    /// `text` has.
-    fn kept(&self, text: usize) -> Result<Names, AllocError>
-        ensures { IfOk result (λ names. names ≡ add_where (spec.is_within text self.now.holders) [] self.now.taken) }
+    /// Adds those of the names that the innermost body takes which a scope further in than the
+    /// outermost `text` has.
+    fn add_kept(&self, names: &mut Names, text: usize) -> Step
+        ensures { OnOk result (names.new ≡ add_where (spec.is_within text self.now.holders) names.old self.now.taken) }
     {
-        let mut names = Names::new(self.alloc);
         for name in self.taken.as_slice() {
             if is_within(&self.holders, text, name.name.as_slice()) {
                 names.add(self.alloc, name)?;
             }
         }
-        Ok(names)
+        Ok(())
     }
 
-    /// What a scope captures that takes what the innermost body takes.
-    fn captures(&self, text: usize, kind: ScopeKind) -> Result<Names, AllocError>
-        ensures { IfOk result (λ names. names ≡ spec.captures_in text self.now.holders kind self.now.taken) }
+    /// Finds what a scope captures that takes what the innermost body takes.
+    fn add_captures(&self, captures: &mut Names, text: usize, kind: ScopeKind) -> Step
+        requires { captures.old ≡ [] }
+        ensures { OnOk result (captures.new ≡ spec.captures_in text self.now.holders kind self.now.taken) }
     {
         match kind {
-            ScopeKind::Task => self.kept(text),
-            ScopeKind::Loop | ScopeKind::Sync | ScopeKind::Function | ScopeKind::Script => {
-                Ok(Names::new(self.alloc))
-            }
+            ScopeKind::Task => self.add_kept(captures, text),
+            ScopeKind::Loop | ScopeKind::Sync | ScopeKind::Function | ScopeKind::Script => Ok(()),
         }
     }
 
     /// Leaves a scope of the function or script that `text` scopes are round, where its names had these
     /// numbers before it, and finds which names were assigned more than once and what it captures.
-    fn leave(&mut self, text: usize, scope: &mut Scope, numbers: &[u8]) -> Result<(), AllocError>
+    fn leave(&mut self, text: usize, scope: &mut Scope, numbers: &[u8]) -> Step
+        requires again { scope.old.again ≡ [] }
+        requires captures { scope.old.captures ≡ [] }
         ensures after { OnOk result (self.new ≡ spec.left scope.old.names numbers.now self.old) }
         ensures scope { OnOk result (scope.new ≡ spec.finished text self.old scope.old) }
     {
-        scope.again = self.counts.again(scope.names.as_slice())?;
+        self.counts
+            .add_again(&mut scope.again, scope.names.as_slice())?;
         self.counts.restore(scope.names.as_slice(), numbers)?;
         self.holders.leave();
-        scope.captures = self.captures(text, scope.kind)?;
-        Ok(())
+        self.add_captures(&mut scope.captures, text, scope.kind)
     }
 
     /// Puts a scope in its place.
@@ -285,24 +289,19 @@ impl Settling {
     }
 
     /// Closes a scope of the function or script that `text` scopes are round.
-    fn close(&mut self, text: usize, scope: Open) -> Result<(), AllocError>
-        ensures { OnOk result (self.new ≡ spec.closed text scope self.old) }
+    fn close(&mut self, text: usize, mut begun: Open) -> Step
+        requires again { begun.scope.again ≡ [] }
+        requires captures { begun.scope.captures ≡ [] }
+        ensures { OnOk result (self.new ≡ spec.closed text begun self.old) }
     {
-        let mut ended = Scope {
-            kind: scope.kind,
-            at: scope.at,
-            names: scope.names,
-            again: Names::new(self.alloc),
-            captures: Names::new(self.alloc),
-        };
-        self.leave(text, &mut ended, scope.numbers.as_slice())?;
-        self.place(scope.index, ended);
-        Ok(())
+        let left = self.leave(text, &mut begun.scope, begun.numbers.as_slice());
+        self.place(begun.index, begun.scope);
+        left
     }
 
     /// Goes through marks in this body, in the function or script that `text` scopes are round.
     #[cycle(walk)]
-    fn walk(&mut self, body: usize, text: usize, marks: &[Mark]) -> Result<(), AllocError>
+    fn walk(&mut self, body: usize, text: usize, marks: &[Mark]) -> Step
         ensures { OnOk result (self.new ≡ spec.walked body text self.old (mark_views marks.now)) }
     {
         for mark in marks {
@@ -312,7 +311,7 @@ impl Settling {
     }
 
     #[cycle(walk)]
-    fn walk_mark(&mut self, body: usize, text: usize, mark: &Mark) -> Result<(), AllocError>
+    fn walk_mark(&mut self, body: usize, text: usize, mark: &Mark) -> Step
         ensures { OnOk result (self.new ≡ spec.walked_mark body text self.old (mark_view mark.now)) }
     {
         match mark {
@@ -326,7 +325,7 @@ impl Settling {
     }
 
     #[cycle(walk)]
-    fn walk_scope(&mut self, body: usize, text: usize, scope: &ScopeMark) -> Result<(), AllocError>
+    fn walk_scope(&mut self, body: usize, text: usize, scope: &ScopeMark) -> Step
         ensures { OnOk result (self.new ≡ spec.walked_mark body text self.old (scope_view scope.now)) }
     {
         let depth = self.holders.len();
@@ -346,41 +345,30 @@ impl Settling {
 
     /// Goes through a scope.
     #[cycle(walk)]
-    fn walk_within(
-        &mut self,
-        body: usize,
-        text: usize,
-        head: &Head,
-        marks: &[Mark],
-    ) -> Result<(), AllocError>
+    fn walk_within(&mut self, body: usize, text: usize, head: &Head, marks: &[Mark]) -> Step
         ensures { OnOk result (self.new ≡ spec.walked_within body text head.now.kind head.now.at head.now.variables.now (mark_views marks.now) self.old) }
     {
-        let scope = self.begin(body, head, marks)?;
+        let mut begun = self.next_scope(head.kind, head.at);
+        self.begin(&mut begun, body, head, marks)?;
         self.walk(body, text, marks)?;
-        self.close(text, scope)
+        self.close(text, begun)
     }
 
     /// Goes through a scope that is a body of its own.
     #[cycle(walk)]
-    fn walk_apart(&mut self, text: usize, head: &Head, marks: &[Mark]) -> Result<(), AllocError>
+    fn walk_apart(&mut self, text: usize, head: &Head, marks: &[Mark]) -> Step
         ensures { OnOk result (self.new ≡ spec.walked_apart text head.now.kind head.now.at head.now.variables.now (mark_views marks.now) self.old) }
     {
         let outer = replace(&mut self.taken, Names::new(self.alloc));
         let depth = self.holders.len();
-        self.walk_within(depth, text, head, marks)?;
+        let walked = self.walk_within(depth, text, head, marks);
         self.taken = outer;
-        Ok(())
+        walked
     }
 
     /// Goes through a task's body. What it takes is used where it stands.
     #[cycle(walk)]
-    fn walk_task(
-        &mut self,
-        body: usize,
-        text: usize,
-        head: &Head,
-        marks: &[Mark],
-    ) -> Result<(), AllocError>
+    fn walk_task(&mut self, body: usize, text: usize, head: &Head, marks: &[Mark]) -> Step
         ensures { OnOk result (self.new ≡ spec.walked_task body text head.now.kind head.now.at head.now.variables.now (mark_views marks.now) self.old) }
     {
         let outer = replace(&mut self.taken, Names::new(self.alloc));
@@ -391,7 +379,7 @@ impl Settling {
     }
 
     /// Goes through functions.
-    fn walk_functions(&mut self, functions: &[FunctionMark]) -> Result<(), AllocError>
+    fn walk_functions(&mut self, functions: &[FunctionMark]) -> Step
         ensures { OnOk result (self.new ≡ spec.walked_functions self.old (map function_view functions.now)) }
     {
         for function in functions {
@@ -407,7 +395,7 @@ impl Settling {
     }
 
     /// Goes through what the main task does.
-    fn walk_parts(&mut self, parts: &[Part]) -> Result<(), AllocError>
+    fn walk_parts(&mut self, parts: &[Part]) -> Step
         ensures { OnOk result (self.new ≡ spec.walked_parts self.old (map part_view parts.now)) }
     {
         for part in parts {
@@ -416,15 +404,26 @@ impl Settling {
         Ok(())
     }
 
+    /// Opens the script's own scope, and goes through what stands in it.
+    fn walk_body(&mut self, begun: &mut Open, outline: &Outline) -> Step
+        requires { begun.old ≡ spec.next_scope self.old kind.Script 0 }
+        ensures scope { OnOk result (begun.new ≡ spec.open_scope self.old kind.Script 0 (direct_parts [] (outline_view outline.now).parts)) }
+        ensures after { OnOk result (self.new ≡ spec.walked_body self.old (outline_view outline.now)) }
+    {
+        let parts = outline.parts.as_slice();
+        add_script_names(self.alloc, &mut begun.scope.names, parts)?;
+        self.start(begun)?;
+        self.walk_functions(outline.functions.as_slice())?;
+        self.walk_parts(parts)
+    }
+
     /// Goes through a script.
-    fn walk_script(&mut self, outline: &Outline) -> Result<(), AllocError>
+    fn walk_script(&mut self, outline: &Outline) -> Step
         ensures { OnOk result (self.new ≡ spec.walked_script self.old (outline_view outline.now)) }
     {
-        let names = script_names(self.alloc, outline.parts.as_slice())?;
-        let scope = self.start(ScopeKind::Script, 0, names)?;
-        self.walk_functions(outline.functions.as_slice())?;
-        self.walk_parts(outline.parts.as_slice())?;
-        self.close(0, scope)
+        let mut begun = self.next_scope(ScopeKind::Script, 0);
+        self.walk_body(&mut begun, outline)?;
+        self.close(0, begun)
     }
 
     /// Goes through a script, and gives back its scopes.

@@ -1,7 +1,11 @@
--- The function with the index that the name has.
-use Rattle.std.proofs.Common.{◌∙◌}
-use Rattle.jt_names.proofs.FunctionLookup.{signature_found}
+-- What stands there is the first function of the name.
+use Rattle.std.proofs.Common.{arith}
+use Rattle.std.proofs.lemmas.Grind.{common_steps}
+use Rattle.jt_names.proofs.Lookup.{signature_found}
 use Rattle.jt_names.proofs.functions.Functions.get.Goals as goal
 
+pub returns-in_err-index : goal.returns-in_err-index
+returns-in_err-index c = grind (arith, common_steps, signature_found c.args.self.now c.args.name.now)
+
 pub returns : goal.returns
-returns c = c.at.ensures ∙ signature_found c.args.self.now c.args.name.now c.index-index.result c.index-index.ensures
+returns c = grind (arith, common_steps, signature_found c.args.self.now c.args.name.now)

@@ -1,11 +1,12 @@
--- A function that has the name of an earlier one gets no key.
-use Rattle.std.proofs.Common.{◌≡◌, sym, subst, Some}
-use Rattle.jt_names.specs.Lookup.{AreFirstsOf}
-use Rattle.jt_names.specs.Tops.{function_index}
-use Rattle.jt_names.proofs.FunctionLookup.{later_more}
+-- The function's name is one more.
+use Rattle.std.proofs.Common.{◌∙◌, ap, sym}
+use Rattle.std.proofs.lemmas.List.{length-map}
+use Rattle.jt_names.specs.Lookup.{names_of}
+use Rattle.jt_names.specs.declared.functions.Signature.{Signature}
+use Rattle.jt_names.proofs.Lookup.{more_firsts, names_more}
 use Rattle.jt_names.proofs.functions.Functions.push.Goals as goal
 
-pub invariant_of-self-in-Some : goal.invariant_of-self-in-Some
-invariant_of-self-in-Some c =
-    let there : function_index c.self.inside.list c.in_ok-name.name.name ≡ Some c.in-Some.field-0 = cc in
-    subst (λ z. AreFirstsOf c.self.inside.firsts.entries z) (sym c.in_ok-push-in-Some.ensures.ok) (later_more c.self.inside.firsts.entries c.self.inside.list (record { name = c.in_ok-name.name; parameters = c.args.parameters }) c.in-Some.field-0 c.self.invariant there)
+pub invariant_of-self-in_default : goal.invariant_of-self-in_default
+invariant_of-self-in_default c =
+    more_firsts c.self.inside.firsts.places.entries c.add.new.self.places.entries (names_of c.self.inside.list) (names_of c.push.new.self) c.in_ok-copied.field-0 c.as_slice.result.now c.len-index.result
+    c.self.invariant (ap names_of c.in_ok-push.ensures.ok ∙ names_more c.self.inside.list (record { name = c.in_ok-copied.field-0; parameters = c.args.parameters })) (c.as_slice.ensures ∙ ap (λ z. z.name) (sym c.in_ok-copied.ensures)) (c.len-index.ensures ∙ sym (length-map c.self.inside.list (λ (f : Signature). f.name))) c.in_default.ensures.ok

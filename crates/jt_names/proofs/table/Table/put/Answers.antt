@@ -1,17 +1,23 @@
 -- The name has one depth more.
-use Rattle.std.proofs.Common.{◌≡◌, ◌<◌, ◌++◌, ◌∷◌, [], length, get_or, slice_set, arith, ap, ◌∙◌}
-use Rattle.jt_names.specs.Names.{Name}
-use Rattle.jt_names.specs.Table.{depths_in, pushed}
-use Rattle.jt_names.proofs.TableLaws.{index_below, on_ok, put_more}
+use Rattle.std.proofs.Common.{◌≡◌, ◌∙◌, ◌++◌, ◌∷◌, [], ap, rules}
+use Rattle.std.specs.Option.{unwrap_or}
+use Rattle.indexmap.specs.Entry.{map_with_value}
+use Rattle.jt_names.specs.Lookup.{found}
+use Rattle.jt_names.proofs.TableLaws.{on_ok, on_err, put_more, put_same}
 use Rattle.jt_names.proofs.table.Table.put.Goals as goal
 
 pub returns-clause-ok : goal.returns-clause-ok
 returns-clause-ok c =
-    let within : c.in_ok-number.number < length c.number.new.self.names = index_below c.number.new.self.names c.args.identifier.now.name c.in_ok-number.number c.in_ok-number.ensures.found in
-    on_ok c.push_at.result
-    (c.push_at.new.self.depths.items ≡ slice_set c.number.new.self.depths.items c.in_ok-number.number (get_or c.number.new.self.depths.items c.in_ok-number.number [] ++ c.args.depth ∷ []))
-    ((x : Name) → depths_in c.push_at.new.self.names c.push_at.new.self.depths.items x ≡ pushed (c.args.identifier.now ∷ []) c.args.depth (depths_in c.args.self.now.names c.args.self.now.depths.items x) x)
-    (λ e x. ap (λ z. depths_in z c.push_at.new.self.depths.items x) c.push_at.ensures.names
-    ∙ put_more c.number.new.self.names c.number.new.self.depths.items c.push_at.new.self.depths.items c.args.identifier.now c.in_ok-number.number c.args.depth (depths_in c.args.self.now.names c.args.self.now.depths.items x) x
-    c.in_ok-number.ensures.found (omega (arith, c.number.new.self.matched)) e (c.in_ok-number.ensures.kept x))
-    c.push_at.ensures.ok
+    let had = c.or_insert-depths.ensures.value ∙ (ap (λ z. unwrap_or z c.new.result) c.in_ok-self.ensures.value ∙ ap (unwrap_or (found c.args.self.now.depths.entries c.in_ok-key.key.items)) c.new.ensures) in
+    let put = on_ok c.push.result (c.push.new.self ≡ c.or_insert-depths.result.now ++ c.args.depth ∷ []) _
+    (λ e. put_more c.args.self.now.depths (map_with_value c.in_ok-self.field-0 c.push.new.self) c.in_ok-key.key.items c.args.identifier.now (c.in_ok-key.ensures.items ∙ c.as_slice.ensures) c.or_insert-depths.result.now c.push.new.self c.args.depth
+    had e (c.in_ok-self.ensures.update.0 c.push.new.self)) c.push.ensures.ok in
+    search (rules, put)
+
+pub returns-clause-err : goal.returns-clause-err
+returns-clause-err c =
+    let had = c.or_insert-depths.ensures.value ∙ (ap (λ z. unwrap_or z c.new.result) c.in_ok-self.ensures.value ∙ ap (unwrap_or (found c.args.self.now.depths.entries c.in_ok-key.key.items)) c.new.ensures) in
+    let put = on_err c.push.result (c.push.new.self ≡ c.or_insert-depths.result.now) _
+    (λ e. put_same c.args.self.now.depths (map_with_value c.in_ok-self.field-0 c.push.new.self) c.in_ok-key.key.items c.args.identifier.now (c.in_ok-key.ensures.items ∙ c.as_slice.ensures) c.or_insert-depths.result.now c.push.new.self
+    had e (c.in_ok-self.ensures.update.0 c.push.new.self)) c.push.ensures.err in
+    search (rules, put)

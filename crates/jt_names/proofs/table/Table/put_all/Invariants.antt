@@ -5,4 +5,4 @@ use Rattle.jt_names.specs.Table.{depths_in, pushed}
 use Rattle.jt_names.proofs.table.Table.put_all.Given as goal
 
 abbrev pub invariant-loop-index : goal.invariant-loop-index
-invariant-loop-index l = (x : Name) → depths_in l.self.names l.self.depths.items x ≡ pushed (take l.index l.identifiers) l.depth (depths_in l.fn.self.names l.fn.self.depths.items x) x
+invariant-loop-index l = (x : Name) → depths_in l.self.depths.entries x ≡ pushed (take l.index l.identifiers) l.depth (depths_in l.fn.self.depths.entries x) x

@@ -5,4 +5,4 @@ use Rattle.jt_names.specs.Table.{depths_in, taken}
 use Rattle.jt_names.proofs.table.Table.take_all.Given as goal
 
 abbrev pub invariant-loop-identifier : goal.invariant-loop-identifier
-invariant-loop-identifier l = (x : Name) → taken (drop l.identifier-index l.identifiers) (depths_in l.self.names l.self.depths.items x) x ≡ taken l.fn.identifiers (depths_in l.fn.self.names l.fn.self.depths.items x) x
+invariant-loop-identifier l = (x : Name) → taken (drop l.identifier-index l.identifiers) (depths_in l.self.depths.entries x) x ≡ taken l.fn.identifiers (depths_in l.fn.self.depths.entries x) x
