@@ -1,4 +1,5 @@
 pub mod Behind
+pub mod Chains
 pub mod Tied
 pub mod Whole
 pub mod Texts

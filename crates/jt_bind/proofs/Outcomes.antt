@@ -1,5 +1,5 @@
 -- What a walk makes, where what is made of its parts comes out well.
-use Rattle.std.proofs.Common.{◌≡◌, List, [], ◌∷◌, ◌++◌, Result, Ok, Err, IfOk, OnOk, ap, sym, ◌∙◌}
+use Rattle.std.proofs.Common.{◌≡◌, ℕ, List, [], ◌∷◌, ◌++◌, Result, Ok, Err, IfOk, OnOk, ap, sym, ◌∙◌}
 use Rattle.jt_program.specs.declared.code.Code.{Code}
 use Rattle.jt_syntax.specs.Tree.{TopTree}
 use Rattle.jt_program.specs.Plan.{Plan, Plans, BodyPlan}
@@ -8,7 +8,8 @@ use Rattle.jt_program.specs.View.{plan_of}
 use Rattle.jt_bind.specs.Behind.{behind, with_last}
 use Rattle.jt_bind.specs.Made.{Made, made, with, both}
 use Rattle.jt_bind.specs.Programs.{one_more}
-use Rattle.jt_bind.specs.States.{State}
+use Rattle.jt_nodes.specs.Nodes.{body_of}
+use Rattle.jt_bind.specs.States.{State, count, within, bodied}
 use Rattle.jt_bind.proofs.Behind.{with_pushed}
 
 pub code_made : {E : Type 0} (r : Result Code E) (m : Made State Plan) (q : Plan) (s : State) → m ≡ made q s → IfOk r (λ p. plan_of p ≡ q) → IfOk r (λ p. m ≡ made (plan_of p) s)
@@ -36,7 +37,12 @@ function_put : (old new : List BodyPlan) (w : Made State BodyPlan) (s : State) (
 function_put old new w s rest h =
     ap (λ m. with (behind one_more m.it) (rest m.state)) (sym h) ∙ with_pushed one_more old w.it (rest w.state)
 
-pub function_made : {A E : Type 0} (r : Result A E) (old new : List BodyPlan) (w : Made State BodyPlan) (s : State) (rest : State → List TopTree → Made State (List BodyPlan)) → OnOk r (with (with_last old) w ≡ made new s)
-    → OnOk r ((ts : List TopTree) → with (behind one_more new) (rest s ts) ≡ with (behind one_more old) (both one_more w (λ t. rest t ts)))
-function_made (Ok a) old new w s rest e = λ ts. function_put old new w s (λ t. rest t ts) e
-function_made (Err x) old new w s rest e = e
+-- a function of n variables goes behind the others, and the rest behind it
+pub function_made : {A E : Type 0} (r : Result A E) (old new : List BodyPlan) (s later : State) (m : Made State Plan) (n : ℕ) (p : Plan) (rest : State → List TopTree → Made State (List BodyPlan))
+    → n ≡ count s → within m ≡ made p later → OnOk r (new ≡ with_last old (body_of n p))
+    → OnOk r ((ts : List TopTree) → with (behind one_more new) (rest later ts) ≡ with (behind one_more old) (both one_more (bodied s m) (λ t. rest t ts)))
+function_made (Ok a) old new s later m n p rest c h e =
+    let put : with (with_last old) (bodied s m) ≡ made new later =
+    ap (λ u. with (with_last old) (with (body_of (count s)) u)) h ∙ (ap (λ k. made (with_last old (body_of k p)) later) (sym c) ∙ ap (λ bs. made bs later) (sym e)) in
+    λ ts. function_put old new (bodied s m) later (λ t. rest t ts) put
+function_made (Err x) old new s later m n p rest c h e = e

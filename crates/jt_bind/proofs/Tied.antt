@@ -3,12 +3,10 @@ use Rattle.std.proofs.Common.{◌≡◌, List, [], ◌∷◌, refl, ap, ◌∙�
 use Rattle.jt_syntax.specs.declared.operator.ArithmeticOperator.TheVariants as arithmetic
 use Rattle.jt_syntax.specs.declared.operator.AssignmentOperator.{AssignmentOperator}
 use Rattle.jt_syntax.specs.declared.operator.AssignmentOperator.TheVariants as assigns
-use Rattle.jt_syntax.specs.declared.operator.Class.TheVariants as class
-use Rattle.jt_syntax.specs.declared.operator.Connective.TheVariants as connective
 use Rattle.jt_syntax.specs.declared.script.Identifier.{Identifier}
 use Rattle.jt_syntax.specs.Tree.{Tree, Trees, Terms, Arms, Leap, Step, Steps}
 use Rattle.jt_syntax.specs.Tree as tree
-use Rattle.jt_program.specs.Plan.{Plan, Plans, Choices, BodyPlan}
+use Rattle.jt_program.specs.Plan.{Plans, BodyPlan}
 use Rattle.jt_program.specs.Plan as plan
 use Rattle.jt_program.specs.View.{piece_before}
 use Rattle.jt_outline.specs.declared.mark.ScopeKind.TheVariants as kind
@@ -18,14 +16,15 @@ use Rattle.jt_scopes.specs.declared.scope.Scope.{Scope}
 use Rattle.jt_scopes.specs.Scopes.{begun}
 use Rattle.jt_places.specs.Slots.{first}
 use Rattle.jt_nodes.specs.Loops.{TurnPlan, turn_of, while_of, for_of}
-use Rattle.jt_nodes.specs.Nodes.{before}
-use Rattle.jt_bind.specs.Bound.{Numbers, piece_of, loop_scope, task_scope, sync_scope, bound, bound_all, bound_pieces, bound_operands, bound_comparisons, bound_connected, bound_arms, bound_otherwise, bound_leap, bound_step, bound_steps}
-use Rattle.jt_nodes.specs.Lowered.{written, operation_of, comparison_of, operated, updated, callee_of}
+use Rattle.jt_nodes.specs.Chains.{chained, guarded}
+use Rattle.jt_bind.specs.Bound.{Numbers, piece_of, loop_scope, task_scope, sync_scope, bound, bound_all, bound_pieces, bound_arms, bound_otherwise, bound_leap, bound_step, bound_steps}
+use Rattle.jt_nodes.specs.Lowered.{written, operated, updated, callee_of}
 use Rattle.jt_bind.specs.Made.{Made, made, with, both, three, four}
 use Rattle.jt_bind.specs.Making.{making_of}
 use Rattle.jt_bind.specs.Slots.{target, slot_of}
 use Rattle.jt_bind.specs.States.{State, standing, entered, within, turned, forked}
-use Rattle.jt_bind.specs.Walked.{walked, walked_all, walked_pieces, walked_operands, walked_comparisons, walked_connected, walked_arms, walked_otherwise, walked_leap, walked_step, walked_steps}
+use Rattle.jt_bind.proofs.Chains.{bound_terms, chain_bound, guard_bound}
+use Rattle.jt_bind.specs.Walked.{walked, walked_all, walked_pieces, walked_terms, walked_arms, walked_otherwise, walked_leap, walked_step, walked_steps}
 
 -- what was made in the scopes c, with these scopes still to begin
 abbrev pub lifted : {A : Type 0} → List Scope → List Scope → Made (List BodyPlan) A → Made State A
@@ -38,6 +37,10 @@ pub record Ties {A : Type 0} (c l k : List Scope) (w : State → Made State A) (
 -- what makes nothing of its own
 pub none_tied : {A : Type 0} (c l : List Scope) (a : A) → Ties c l l (λ t. made a t) (λ s. made a s)
 none_tied c l a = record { ties = λ s. refl }
+
+-- what is made may be said in another way
+same_tied : {A : Type 0} {c l k : List Scope} {w : State → Made State A} {m n : List BodyPlan → Made (List BodyPlan) A} → ((s : List BodyPlan) → m s ≡ n s) → Ties c l k w m → Ties c l k w n
+same_tied {c = c} {k = k} e p = record { ties = λ s. p.ties s ∙ ap (lifted c k) (e s) }
 
 -- one part, two, three and four
 pub one_tied : {A B : Type 0} {c l k : List Scope} {w : State → Made State A} {m : List BodyPlan → Made (List BodyPlan) A} (f : A → B) → Ties c l k w m → Ties c l k (λ t. with f (w t)) (λ s. with f (m s))
@@ -68,7 +71,7 @@ last_marks (tree.arm e ss arms) r = last_marks arms r
 
 -- the turn of a loop with this body in the scopes c
 abbrev turn_in : List Scope → List Identifier → Steps → Plans → TurnPlan
-turn_in c is ss ps = turn_of (first (loop_scope c is ss) c) (length (loop_scope c is ss).names) ps
+turn_in c is ss ps = turn_of (first (loop_scope c is ss) c) (length (loop_scope c is ss).names) (plan.block ps)
 
 -- an assignment of what is made of e
 assigned_tied : (x : Numbers) (c : List Scope) (i : Identifier) (o : AssignmentOperator) (e : Tree) (r : Marks) (l : List Scope) → Ties c (begun c (marks e r) l) (begun c r l) (λ t. walked x t e) (λ s. bound x c s e)
@@ -77,7 +80,7 @@ assigned_tied x c i o e r l p = record { ties = λ s. ap (with (λ p. plan.assig
 
 turn_tied : (x : Numbers) (c : List Scope) (is : List Identifier) (ss : Steps) (r : Marks) (l : List Scope)
     → Ties (loop_scope c is ss ∷ c) (begun (loop_scope c is ss ∷ c) (marks_steps ss no_marks) (begun c r l)) (begun c r l) (λ t. walked_steps x t ss) (λ s. bound_steps x (loop_scope c is ss ∷ c) s ss)
-    → Ties c (begun c (mark (scope kind.Loop 0 is (marks_steps ss no_marks)) r) l) (begun c r l) (λ t. turned t (walked_steps x (entered t) ss)) (λ s. with (turn_in c is ss) (bound_steps x (loop_scope c is ss ∷ c) s ss))
+    → Ties c (begun c (mark (scope kind.Loop 0 is (marks_steps ss no_marks)) r) l) (begun c r l) (λ t. turned t (with plan.block (walked_steps x (entered t) ss))) (λ s. with (turn_in c is ss) (bound_steps x (loop_scope c is ss ∷ c) s ss))
 turn_tied x c is ss r l p = record { ties = λ s. ap (λ m. with (turn_in c is ss) (within m)) (p.ties s) }
 
 mutual
@@ -102,12 +105,7 @@ mutual
   tied x c (tree.read i) r l = record { ties = λ s. refl }
   tied x c (tree.power a b) r l = both_tied (λ p q. operated p arithmetic.Power q) (tied x c a (marks b r) l) (tied x c b r l)
   tied x c (tree.unary o e) r l = one_tied (plan.unary o) (tied x c e r l)
-  tied x c (tree.chain class.Or e es) r l = both_tied (plan.connection connective.Or) (tied x c e (marks_terms es r) l) (tied_connected x c es r l)
-  tied x c (tree.chain class.And e es) r l = both_tied (plan.connection connective.And) (tied x c e (marks_terms es r) l) (tied_connected x c es r l)
-  tied x c (tree.chain class.Comparison e es) r l = both_tied plan.comparison (tied x c e (marks_terms es r) l) (tied_comparisons x c es r l)
-  tied x c (tree.chain class.Sum e es) r l = both_tied plan.operation (tied x c e (marks_terms es r) l) (tied_operands x c es r l)
-  tied x c (tree.chain class.Product e es) r l = both_tied plan.operation (tied x c e (marks_terms es r) l) (tied_operands x c es r l)
-  tied x c (tree.chain class.Shift e es) r l = both_tied plan.operation (tied x c e (marks_terms es r) l) (tied_operands x c es r l)
+  tied x c (tree.chain k e es) r l = same_tied (λ s. chain_bound x c s k e es) (both_tied (chained k) (tied x c e (marks_terms es r) l) (tied_terms x c es r l))
   tied x c (tree.conditional t a b) r l = three_tied (λ t a b. plan.branch (plan.choice t a plan.no_choices) b) (tied x c t (marks a (marks b r)) l) (tied x c a (marks b r) l) (tied x c b r l)
   tied x c (tree.block ss) r l = one_tied plan.block (tied_steps x c ss r l)
   tied x c (tree.branches t ss arms) r l =
@@ -131,17 +129,9 @@ mutual
   tied_pieces x c tree.no_trees r l = record { ties = λ s. refl }
   tied_pieces x c (tree.tree e es) r l = both_tied (λ p ps. piece_before (piece_of e p) ps) (tied x c e (marks_all es r) l) (tied_pieces x c es r l)
 
-  tied_operands : (x : Numbers) (c : List Scope) (es : Terms) (r : Marks) (l : List Scope) → Ties c (begun c (marks_terms es r) l) (begun c r l) (λ w. walked_operands x w es) (λ s. bound_operands x c s es)
-  tied_operands x c tree.no_terms r l = record { ties = λ s. refl }
-  tied_operands x c (tree.term o e es) r l = both_tied (plan.operand (operation_of o)) (tied x c e (marks_terms es r) l) (tied_operands x c es r l)
-
-  tied_comparisons : (x : Numbers) (c : List Scope) (es : Terms) (r : Marks) (l : List Scope) → Ties c (begun c (marks_terms es r) l) (begun c r l) (λ w. walked_comparisons x w es) (λ s. bound_comparisons x c s es)
-  tied_comparisons x c tree.no_terms r l = record { ties = λ s. refl }
-  tied_comparisons x c (tree.term o e es) r l = both_tied (plan.compared (comparison_of o)) (tied x c e (marks_terms es r) l) (tied_comparisons x c es r l)
-
-  tied_connected : (x : Numbers) (c : List Scope) (es : Terms) (r : Marks) (l : List Scope) → Ties c (begun c (marks_terms es r) l) (begun c r l) (λ w. walked_connected x w es) (λ s. bound_connected x c s es)
-  tied_connected x c tree.no_terms r l = record { ties = λ s. refl }
-  tied_connected x c (tree.term o e es) r l = both_tied plan.plan (tied x c e (marks_terms es r) l) (tied_connected x c es r l)
+  tied_terms : (x : Numbers) (c : List Scope) (es : Terms) (r : Marks) (l : List Scope) → Ties c (begun c (marks_terms es r) l) (begun c r l) (λ w. walked_terms x w es) (λ s. bound_terms x c s es)
+  tied_terms x c tree.no_terms r l = record { ties = λ s. refl }
+  tied_terms x c (tree.term o e es) r l = both_tied (λ p ps. (o, p) ∷ ps) (tied x c e (marks_terms es r) l) (tied_terms x c es r l)
 
   -- what stands behind `else` is left
   tied_arms : (x : Numbers) (c : List Scope) (arms : Arms) (r : Marks) (l : List Scope) → Ties c (begun c (marks_arms arms r) l) (begun c (last_marks arms r) l) (λ w. walked_arms x w arms) (λ s. bound_arms x c s arms)
@@ -170,7 +160,7 @@ mutual
   tied_step x c (tree.store i e) r l = record { ties = λ s. refl }
   tied_step x c (tree.jump j) r l = record { ties = (tied_leap x c j r l).ties }
   tied_step x c (tree.guard k e es j) r l =
-      three_tied (λ p ps l. plan.connection k p (before ps (plan.plan l plan.no_plans))) (tied x c e (marks_terms es (marks_leap j r)) l) (tied_connected x c es (marks_leap j r) l) (tied_leap x c j r l)
+      same_tied (λ s. guard_bound x c s k e es j) (three_tied (guarded k) (tied x c e (marks_terms es (marks_leap j r)) l) (tied_terms x c es (marks_leap j r) l) (tied_leap x c j r l))
   tied_step x c (tree.value e) r l = record { ties = (tied x c e r l).ties }
 
   pub tied_steps : (x : Numbers) (c : List Scope) (ss : Steps) (r : Marks) (l : List Scope) → Ties c (begun c (marks_steps ss r) l) (begun c r l) (λ w. walked_steps x w ss) (λ s. bound_steps x c s ss)

@@ -1,7 +1,7 @@
 -- Where a walk over a script stands.
 use Rattle.std.specs.Prelude.{ℕ, List, [], ◌∷◌, drop, length}
 use Rattle.jt_outline.specs.declared.mark.ScopeKind.TheVariants as kind
-use Rattle.jt_program.specs.Plan.{Plan, Plans, BodyPlan}
+use Rattle.jt_program.specs.Plan.{Plan, BodyPlan}
 use Rattle.jt_nodes.specs.Loops.{TurnPlan, turn_of}
 use Rattle.jt_nodes.specs.Nodes.{body_of}
 use Rattle.jt_scopes.specs.declared.scope.Scope.{Scope}
@@ -61,7 +61,7 @@ making s = making_of (next s) s.chain
 -- ---- what is made in it
 
 -- a loop's body that was made in the scope that began at the state s
-abbrev pub turned : State → Made State Plans → Made State TurnPlan
+abbrev pub turned : State → Made State Plan → Made State TurnPlan
 turned s m = with (turn_of (start s) (count s)) (within m)
 
 -- a task whose body was made

@@ -1,18 +1,18 @@
 -- What a walk makes of a tree that takes the scopes in the order in which they begin: the plan of the tree
 -- and the bodies of its tasks, as in `Bound`.
+use Rattle.std.specs.Prelude.{List, [], ◌∷◌}
 use Rattle.jt_syntax.specs.declared.operator.ArithmeticOperator.TheVariants as arithmetic
-use Rattle.jt_syntax.specs.declared.operator.Class.TheVariants as class
-use Rattle.jt_syntax.specs.declared.operator.Connective.TheVariants as connective
+use Rattle.jt_syntax.specs.declared.operator.BinaryOperator.{BinaryOperator}
 use Rattle.jt_syntax.specs.Tree.{Tree, Trees, Terms, Arms, Leap, Step, Steps}
 use Rattle.jt_syntax.specs.Tree as tree
 use Rattle.jt_program.specs.declared.code.Literal.TheVariants as literal
-use Rattle.jt_program.specs.Plan.{Plan, Plans, Operands, Comparisons, Choices, Pieces}
+use Rattle.jt_program.specs.Plan.{Plan, Plans, Choices, Pieces}
 use Rattle.jt_program.specs.Plan as plan
 use Rattle.jt_program.specs.View.{piece_before}
 use Rattle.jt_nodes.specs.Loops.{while_of, for_of}
-use Rattle.jt_nodes.specs.Nodes.{before}
+use Rattle.jt_nodes.specs.Chains.{chained, guarded}
 use Rattle.jt_bind.specs.Bound.{Numbers, piece_of}
-use Rattle.jt_nodes.specs.Lowered.{written, number_literal, least_literal, greatest_literal, nothing_literal, operation_of, comparison_of, operated, updated, callee_of}
+use Rattle.jt_nodes.specs.Lowered.{written, number_literal, least_literal, greatest_literal, nothing_literal, operated, updated, callee_of}
 use Rattle.jt_bind.specs.Made.{Made, made, with, both, three, four}
 use Rattle.jt_bind.specs.Slots.{target, interpolated, slot_of}
 use Rattle.jt_bind.specs.States.{State, entered, within, turned, tasked}
@@ -40,17 +40,14 @@ abbrev mutual
   walked x s (tree.read i) = made nothing_literal s
   walked x s (tree.power a b) = both (λ p q. operated p arithmetic.Power q) (walked x s a) (λ s. walked x s b)
   walked x s (tree.unary o e) = with (plan.unary o) (walked x s e)
-  walked x s (tree.chain class.Or e es) = both (plan.connection connective.Or) (walked x s e) (λ s. walked_connected x s es)
-  walked x s (tree.chain class.And e es) = both (plan.connection connective.And) (walked x s e) (λ s. walked_connected x s es)
-  walked x s (tree.chain class.Comparison e es) = both plan.comparison (walked x s e) (λ s. walked_comparisons x s es)
-  walked x s (tree.chain _ e es) = both plan.operation (walked x s e) (λ s. walked_operands x s es)
+  walked x s (tree.chain k e es) = both (chained k) (walked x s e) (λ s. walked_terms x s es)
   walked x s (tree.conditional t a b) = three (λ t a b. plan.branch (plan.choice t a plan.no_choices) b) (walked x s t) (λ s. walked x s a) (λ s. walked x s b)
   walked x s (tree.block ss) = with plan.block (walked_steps x s ss)
   walked x s (tree.branches t ss arms) =
       four (λ t ps arms last. plan.branch (plan.choice t (plan.block ps) arms) last) (walked x s t) (λ s. walked_steps x s ss) (λ s. walked_arms x s arms) (λ s. walked_otherwise x s arms)
-  walked x s (tree.while t ss) = both while_of (walked x s t) (λ s. turned s (walked_steps x (entered s) ss))
+  walked x s (tree.while t ss) = both while_of (walked x s t) (λ s. turned s (with plan.block (walked_steps x (entered s) ss)))
   walked x s (tree.for_range i a b ss) =
-      three for_of (walked x s a) (λ s. walked x s b) (λ s. turned s (walked_steps x (entered s) ss))
+      three for_of (walked x s a) (λ s. walked x s b) (λ s. turned s (with plan.block (walked_steps x (entered s) ss)))
   walked x s (tree.for_each i e ss) = made nothing_literal s
   walked x s (tree.spawn at p e) = tasked s (walked x (entered s) e)
   walked x s (tree.async at e) = tasked s (walked x (entered s) e)
@@ -65,18 +62,9 @@ abbrev mutual
   walked_pieces x s tree.no_trees = made plan.no_pieces s
   walked_pieces x s (tree.tree e es) = both (λ p ps. piece_before (piece_of e p) ps) (walked x s e) (λ s. walked_pieces x s es)
 
-  pub walked_operands : Numbers → State → Terms → Made State Operands
-  walked_operands x s tree.no_terms = made plan.no_operands s
-  walked_operands x s (tree.term o e es) = both (plan.operand (operation_of o)) (walked x s e) (λ s. walked_operands x s es)
-
-  pub walked_comparisons : Numbers → State → Terms → Made State Comparisons
-  walked_comparisons x s tree.no_terms = made plan.no_comparisons s
-  walked_comparisons x s (tree.term o e es) = both (plan.compared (comparison_of o)) (walked x s e) (λ s. walked_comparisons x s es)
-
-  -- operands of `&&` or `||`
-  pub walked_connected : Numbers → State → Terms → Made State Plans
-  walked_connected x s tree.no_terms = made plan.no_plans s
-  walked_connected x s (tree.term o e es) = both plan.plan (walked x s e) (λ s. walked_connected x s es)
+  pub walked_terms : Numbers → State → Terms → Made State (List (BinaryOperator × Plan))
+  walked_terms x s tree.no_terms = made [] s
+  walked_terms x s (tree.term o e es) = both (λ p ps. (o, p) ∷ ps) (walked x s e) (λ s. walked_terms x s es)
 
   pub walked_arms : Numbers → State → Arms → Made State Choices
   walked_arms x s tree.no_arms = made plan.no_choices s
@@ -100,8 +88,7 @@ abbrev mutual
   walked_step x s (tree.assign i o e) = with (λ p. plan.assign (slot_of s.chain i.name) (updated o (written (target x.constants s.chain i.name)) p)) (walked x s e)
   walked_step x s (tree.store i e) = made nothing_literal s
   walked_step x s (tree.jump l) = walked_leap x s l
-  walked_step x s (tree.guard k e es l) =
-      three (λ p ps l. plan.connection k p (before ps (plan.plan l plan.no_plans))) (walked x s e) (λ s. walked_connected x s es) (λ s. walked_leap x s l)
+  walked_step x s (tree.guard k e es l) = three (guarded k) (walked x s e) (λ s. walked_terms x s es) (λ s. walked_leap x s l)
   walked_step x s (tree.value e) = walked x s e
 
   pub walked_steps : Numbers → State → Steps → Made State Plans

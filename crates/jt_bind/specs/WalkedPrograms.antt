@@ -1,6 +1,6 @@
 -- What a walk makes of a script that takes the scopes in the order in which they begin: its program, as in
 -- `Programs`.
-use Rattle.std.specs.Prelude.{List, [], ◌∷◌, length}
+use Rattle.std.specs.Prelude.{ℕ, List, [], ◌∷◌, length}
 use Rattle.jt_syntax.specs.declared.script.Identifier.{Identifier}
 use Rattle.jt_syntax.specs.Tree.{Tree, Steps, TopTree}
 use Rattle.jt_syntax.specs.Tree as tree
@@ -8,6 +8,7 @@ use Rattle.jt_program.specs.Plan.{Plan, Plans, BodyPlan, ProgramPlan}
 use Rattle.jt_program.specs.Plan as plan
 use Rattle.jt_bind.specs.Bound.{Numbers}
 use Rattle.jt_nodes.specs.Lowered.{nothing_literal}
+use Rattle.jt_nodes.specs.Nodes.{body_of}
 use Rattle.jt_bind.specs.Made.{Made, made, with, both}
 use Rattle.jt_bind.specs.Programs.{one_more, constant_number, Parts, parts, whole}
 use Rattle.jt_bind.specs.States.{State, entered, count, bodied}
@@ -33,6 +34,10 @@ walked_main x s [] = made (plan.plan nothing_literal plan.no_plans) s
 walked_main x s ((at, tree.constant i e) ∷ ts) = both plan.plan (walked_definition x s i e) (λ s. walked_main x s ts)
 walked_main x s ((at, tree.plain t) ∷ ts) = both plan.plan (walked_step x s t) (λ s. walked_main x s ts)
 walked_main x s ((at, f) ∷ ts) = walked_main x s ts
+
+-- the main task's body with so many variables, and those of the tasks that were made up to its end
+abbrev pub tasks_of : ℕ → Made State Plans → List BodyPlan
+tasks_of variables m = body_of variables (plan.block m.it) ∷ m.state.bodies
 
 abbrev pub walked_parts : Numbers → State → List TopTree → Made State Parts
 walked_parts x s ts = both parts (walked_functions x s ts) (λ s. walked_main x s ts)

@@ -10,9 +10,10 @@ ghost use Rattle.jt_bind.specs.Made.{made, with, both, three};
 ghost use Rattle.jt_bind.specs.States as states;
 ghost use Rattle.jt_bind.specs.Walked as spec;
 ghost use Rattle.jt_bind.specs.Walks.{last_view, numbers, state};
+ghost use Rattle.jt_nodes.specs.Chains as chains;
 ghost use Rattle.jt_nodes.specs.Loops.{while_of, for_of, turn_plan};
 ghost use Rattle.jt_program.specs.Plan as plan;
-ghost use Rattle.jt_program.specs.View.{plan_of, plans, operands_of, operand_plan, comparisons_of, choices_of, arm_plan, pieces_of, piece_plan};
+ghost use Rattle.jt_program.specs.View.{plan_of, choices_of, arm_plan, piece_plan};
 ghost use Rattle.jt_syntax.specs.Tree as tree;
 ghost use Rattle.jt_syntax.specs.View.{view, views, item_view, item_views, term_view, terms_of, arm_view, arms_of, jump_view, stmt_view, stmt_views};
 
@@ -20,15 +21,13 @@ use crate::target::{interpolated, slot_of, target_of};
 use crate::walk::Walk;
 use jt_names::{Functions, Names};
 use jt_nodes::{
-    Allocated, Node, Turn, assignment, block, break_loop, call, callee, comparison,
-    comparison_operator, conditional, connection, continue_loop, error, for_loop, guard, if_else,
-    literal, nothing, number, operation, operation_of_two, operation_operator, print, push,
-    push_arm, push_operand, push_text, push_value, return_value, sync, unary, while_loop, written,
+    Allocated, Operands, Turn, assignment, block, break_loop, call, callee, conditional,
+    continue_loop, error, for_loop, guard, if_else, literal, nothing, number, operation_of_two,
+    print, push, push_arm, push_text, push_value, return_value, sync, unary, while_loop, written,
 };
-use jt_program::{Arm, Code, Literal, Piece};
+use jt_program::{Arm, Literal, Piece};
 use jt_syntax::{
-    ArithmeticOperator, BinaryOperator, Class, ComparisonOperator, Connective, Expr, Identifier,
-    Item, Jump, Stmt,
+    ArithmeticOperator, BinaryOperator, Class, Connective, Expr, Identifier, Item, Jump, Stmt,
 };
 use sqlite_items::{Boxed, Items};
 use std::alloc::Global;
@@ -45,15 +44,15 @@ pub(crate) struct Binder<'s> {
 }
 
 impl Binder<'_> {
-    /// Statements in the scope that begins next.
+    /// A block in the scope that begins next.
     #[cycle(bind)]
-    pub(crate) fn within(&self, walk: &mut Walk<'_>, body: &[Stmt]) -> Allocated<Items<Code>>
-        ensures { IfOk result (λ p. states.within (spec.walked_steps (numbers self.now) (states.entered (state walk.old)) (stmt_views body.now)) ≡ made (plans p) (state walk.new)) }
+    pub(crate) fn within(&self, walk: &mut Walk<'_>, body: &[Stmt]) -> Allocated
+        ensures { IfOk result (λ p. states.within (with plan.block (spec.walked_steps (numbers self.now) (states.entered (state walk.old)) (stmt_views body.now))) ≡ made (plan_of p) (state walk.new)) }
     {
         walk.enter()?;
-        let codes = self.statements(walk, body)?;
+        let code = self.block(walk, body)?;
         walk.leave();
-        Ok(codes)
+        Ok(code)
     }
 
     /// An expression in the scope that begins next.
@@ -80,28 +79,12 @@ impl Binder<'_> {
     /// The body of a loop.
     #[cycle(bind)]
     fn turn(&self, walk: &mut Walk<'_>, body: &[Stmt]) -> Allocated<Turn>
-        ensures { IfOk result (λ t. states.turned (state walk.old) (spec.walked_steps (numbers self.now) (states.entered (state walk.old)) (stmt_views body.now)) ≡ made (turn_plan t) (state walk.new)) }
+        ensures { IfOk result (λ t. states.turned (state walk.old) (with plan.block (spec.walked_steps (numbers self.now) (states.entered (state walk.old)) (stmt_views body.now))) ≡ made (turn_plan t) (state walk.new)) }
     {
         let start = walk.start();
         let count = walk.count();
-        let parts = self.within(walk, body)?;
-        Ok(Turn {
-            start,
-            count,
-            parts,
-        })
-    }
-
-    #[cycle(bind)]
-    fn statements(&self, walk: &mut Walk<'_>, statements: &[Stmt]) -> Allocated<Items<Code>>
-        ensures { IfOk result (λ p. spec.walked_steps (numbers self.now) (state walk.old) (stmt_views statements.now) ≡ made (plans p) (state walk.new)) }
-    {
-        let mut codes = Items::new(self.alloc);
-        for statement in statements {
-            let code = self.statement(walk, statement)?;
-            push(&mut codes, code)?;
-        }
-        Ok(codes)
+        let body = self.within(walk, body)?;
+        Ok(Turn { start, count, body })
     }
 
     #[cycle(bind)]
@@ -136,7 +119,7 @@ impl Binder<'_> {
         ensures { IfOk result (λ p. spec.walked_step (numbers self.now) (state walk.old) (tree.guard connective (view first.now) (terms_of (map term_view terms.now)) (jump_view jump.now)) ≡ made (plan_of p) (state walk.new)) }
     {
         let first = self.expression(walk, first)?;
-        let operands = self.connected(walk, terms)?;
+        let operands = self.operands(walk, connective.class(), terms)?;
         let last = self.jump(walk, jump)?;
         guard(self.alloc, connective, first, operands, last)
     }
@@ -239,15 +222,22 @@ impl Binder<'_> {
         ensures { IfOk result (λ p. spec.walked (numbers self.now) (state walk.old) (tree.call function.now (views arguments.now)) ≡ made (plan_of p) (state walk.new)) }
     {
         let callee = callee(self.functions, function.name.as_slice());
-        let arguments = self.expressions(walk, arguments)?;
-        call(self.alloc, callee, arguments)
+        let mut codes = Items::new(self.alloc);
+        for argument in arguments {
+            let code = self.expression(walk, argument.get())?;
+            push(&mut codes, code)?;
+        }
+        call(self.alloc, callee, codes)
     }
 
     #[cycle(bind)]
     fn print(&self, walk: &mut Walk<'_>, items: &[Item]) -> Allocated
         ensures { IfOk result (λ p. spec.walked (numbers self.now) (state walk.old) (tree.println (item_views items.now)) ≡ made (plan_of p) (state walk.new)) }
     {
-        let pieces = self.pieces(walk, items)?;
+        let mut pieces = Items::new(self.alloc);
+        for item in items {
+            self.piece(walk, &mut pieces, item)?;
+        }
         print(self.alloc, pieces)
     }
 
@@ -265,45 +255,22 @@ impl Binder<'_> {
     fn chain(&self, walk: &mut Walk<'_>, class: Class, first: &Expr, terms: &[Term]) -> Allocated
         ensures { IfOk result (λ p. spec.walked (numbers self.now) (state walk.old) (tree.chain class (view first.now) (terms_of (map term_view terms.now))) ≡ made (plan_of p) (state walk.new)) }
     {
-        match class {
-            Class::Or => self.connection(walk, Connective::Or, first, terms),
-            Class::And => self.connection(walk, Connective::And, first, terms),
-            Class::Comparison => self.comparison(walk, first, terms),
-            Class::Sum | Class::Product | Class::Shift => self.operation(walk, first, terms),
+        let first = self.expression(walk, first)?;
+        let operands = self.operands(walk, class, terms)?;
+        operands.into_chain(self.alloc, first)
+    }
+
+    /// The operands of a chain of this class behind its first one.
+    #[cycle(bind)]
+    fn operands(&self, walk: &mut Walk<'_>, class: Class, terms: &[Term]) -> Allocated<Operands>
+        ensures { IfOk result (λ p. with (chains.all_more (chains.none_of class)) (spec.walked_terms (numbers self.now) (state walk.old) (terms_of (map term_view terms.now))) ≡ made (chains.operands_plan p) (state walk.new)) }
+    {
+        let mut operands = Operands::new(self.alloc, class);
+        for term in terms {
+            let operand = self.expression(walk, term.1.get())?;
+            operands.push(term.0, operand)?;
         }
-    }
-
-    #[cycle(bind)]
-    fn connection(
-        &self,
-        walk: &mut Walk<'_>,
-        connective: Connective,
-        first: &Expr,
-        terms: &[Term],
-    ) -> Allocated
-        ensures { IfOk result (λ p. both (plan.connection connective) (spec.walked (numbers self.now) (state walk.old) (view first.now)) (λ s. spec.walked_connected (numbers self.now) s (terms_of (map term_view terms.now))) ≡ made (plan_of p) (state walk.new)) }
-    {
-        let first = self.expression(walk, first)?;
-        let operands = self.connected(walk, terms)?;
-        connection(self.alloc, connective, first, operands)
-    }
-
-    #[cycle(bind)]
-    fn comparison(&self, walk: &mut Walk<'_>, first: &Expr, terms: &[Term]) -> Allocated
-        ensures { IfOk result (λ p. both plan.comparison (spec.walked (numbers self.now) (state walk.old) (view first.now)) (λ s. spec.walked_comparisons (numbers self.now) s (terms_of (map term_view terms.now))) ≡ made (plan_of p) (state walk.new)) }
-    {
-        let first = self.expression(walk, first)?;
-        let comparisons = self.comparisons(walk, terms)?;
-        comparison(self.alloc, first, comparisons)
-    }
-
-    #[cycle(bind)]
-    fn operation(&self, walk: &mut Walk<'_>, first: &Expr, terms: &[Term]) -> Allocated
-        ensures { IfOk result (λ p. both plan.operation (spec.walked (numbers self.now) (state walk.old) (view first.now)) (λ s. spec.walked_operands (numbers self.now) s (terms_of (map term_view terms.now))) ≡ made (plan_of p) (state walk.new)) }
-    {
-        let first = self.expression(walk, first)?;
-        let operands = self.operands(walk, terms)?;
-        operation(self.alloc, first, operands)
+        Ok(operands)
     }
 
     #[cycle(bind)]
@@ -326,7 +293,11 @@ impl Binder<'_> {
     pub(crate) fn block(&self, walk: &mut Walk<'_>, body: &[Stmt]) -> Allocated
         ensures { IfOk result (λ p. with plan.block (spec.walked_steps (numbers self.now) (state walk.old) (stmt_views body.now)) ≡ made (plan_of p) (state walk.new)) }
     {
-        let codes = self.statements(walk, body)?;
+        let mut codes = Items::new(self.alloc);
+        for statement in body {
+            let code = self.statement(walk, statement)?;
+            push(&mut codes, code)?;
+        }
         block(self.alloc, codes)
     }
 
@@ -361,7 +332,7 @@ impl Binder<'_> {
 
     #[cycle(bind)]
     fn while_loop(&self, walk: &mut Walk<'_>, test: &Expr, body: &[Stmt]) -> Allocated
-        ensures { IfOk result (λ p. both while_of (spec.walked (numbers self.now) (state walk.old) (view test.now)) (λ s. states.turned s (spec.walked_steps (numbers self.now) (states.entered s) (stmt_views body.now))) ≡ made (plan_of p) (state walk.new)) }
+        ensures { IfOk result (λ p. both while_of (spec.walked (numbers self.now) (state walk.old) (view test.now)) (λ s. states.turned s (with plan.block (spec.walked_steps (numbers self.now) (states.entered s) (stmt_views body.now)))) ≡ made (plan_of p) (state walk.new)) }
     {
         let test = self.expression(walk, test)?;
         let turn = self.turn(walk, body)?;
@@ -370,53 +341,12 @@ impl Binder<'_> {
 
     #[cycle(bind)]
     fn for_loop(&self, walk: &mut Walk<'_>, low: &Expr, high: &Expr, body: &[Stmt]) -> Allocated
-        ensures { IfOk result (λ p. three for_of (spec.walked (numbers self.now) (state walk.old) (view low.now)) (λ s. spec.walked (numbers self.now) s (view high.now)) (λ s. states.turned s (spec.walked_steps (numbers self.now) (states.entered s) (stmt_views body.now))) ≡ made (plan_of p) (state walk.new)) }
+        ensures { IfOk result (λ p. three for_of (spec.walked (numbers self.now) (state walk.old) (view low.now)) (λ s. spec.walked (numbers self.now) s (view high.now)) (λ s. states.turned s (with plan.block (spec.walked_steps (numbers self.now) (states.entered s) (stmt_views body.now)))) ≡ made (plan_of p) (state walk.new)) }
     {
         let low = self.expression(walk, low)?;
         let high = self.expression(walk, high)?;
         let turn = self.turn(walk, body)?;
         for_loop(self.alloc, low, high, turn)
-    }
-
-    #[cycle(bind)]
-    fn expressions(
-        &self,
-        walk: &mut Walk<'_>,
-        expressions: &[Boxed<Expr>],
-    ) -> Allocated<Items<Code>>
-        ensures { IfOk result (λ p. spec.walked_all (numbers self.now) (state walk.old) (views expressions.now) ≡ made (plans p) (state walk.new)) }
-    {
-        let mut codes = Items::new(self.alloc);
-        for expression in expressions {
-            let code = self.expression(walk, expression.get())?;
-            push(&mut codes, code)?;
-        }
-        Ok(codes)
-    }
-
-    /// Operands with `&&` or `||` between.
-    #[cycle(bind)]
-    fn connected(&self, walk: &mut Walk<'_>, terms: &[Term]) -> Allocated<Items<Code>>
-        ensures { IfOk result (λ p. spec.walked_connected (numbers self.now) (state walk.old) (terms_of (map term_view terms.now)) ≡ made (plans p) (state walk.new)) }
-    {
-        let mut codes = Items::new(self.alloc);
-        for term in terms {
-            let code = self.expression(walk, term.1.get())?;
-            push(&mut codes, code)?;
-        }
-        Ok(codes)
-    }
-
-    /// What `println` prints.
-    #[cycle(bind)]
-    fn pieces(&self, walk: &mut Walk<'_>, items: &[Item]) -> Allocated<Items<Piece>>
-        ensures { IfOk result (λ p. spec.walked_pieces (numbers self.now) (state walk.old) (item_views items.now) ≡ made (pieces_of (map piece_plan p)) (state walk.new)) }
-    {
-        let mut pieces = Items::new(self.alloc);
-        for item in items {
-            self.piece(walk, &mut pieces, item)?;
-        }
-        Ok(pieces)
     }
 
     /// Puts one more piece behind the others.
@@ -431,40 +361,6 @@ impl Binder<'_> {
             }
             Item::Text(text) => push_text(self.alloc, pieces, text.as_slice()),
         }
-    }
-
-    /// The operands of an operation behind its first one.
-    #[cycle(bind)]
-    fn operands(
-        &self,
-        walk: &mut Walk<'_>,
-        terms: &[Term],
-    ) -> Allocated<Items<(ArithmeticOperator, Code)>>
-        ensures { IfOk result (λ p. spec.walked_operands (numbers self.now) (state walk.old) (terms_of (map term_view terms.now)) ≡ made (operands_of (map operand_plan p)) (state walk.new)) }
-    {
-        let mut operands = Items::new(self.alloc);
-        for term in terms {
-            let code = self.expression(walk, term.1.get())?;
-            push_operand(&mut operands, operation_operator(term.0), code)?;
-        }
-        Ok(operands)
-    }
-
-    /// The comparisons behind the first operand.
-    #[cycle(bind)]
-    fn comparisons(
-        &self,
-        walk: &mut Walk<'_>,
-        terms: &[Term],
-    ) -> Allocated<Items<(ComparisonOperator, Code)>>
-        ensures { IfOk result (λ p. spec.walked_comparisons (numbers self.now) (state walk.old) (terms_of (map term_view terms.now)) ≡ made (comparisons_of (map operand_plan p)) (state walk.new)) }
-    {
-        let mut comparisons = Items::new(self.alloc);
-        for term in terms {
-            let code = self.expression(walk, term.1.get())?;
-            push_operand(&mut comparisons, comparison_operator(term.0), code)?;
-        }
-        Ok(comparisons)
     }
 
     /// The arms behind `elseif`. What stands behind `else` is none of them.

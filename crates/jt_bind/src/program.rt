@@ -1,16 +1,15 @@
 //! Whole scripts to programs.
 
 ghost use Rattle.std.specs.Prelude.{◌≡◌, ◌∷◌, [], List, OnOk, IfOk, map};
-ghost use Rattle.jt_bind.specs.Behind.{behind, with_last};
+ghost use Rattle.jt_bind.specs.Behind.{behind};
 ghost use Rattle.jt_bind.specs.Made.{made, with};
-ghost use Rattle.jt_nodes.specs.Nodes.{body_of};
 ghost use Rattle.jt_bind.specs.Programs as spec;
 ghost use Rattle.jt_bind.specs.WalkedPrograms as walked;
 ghost use Rattle.jt_bind.specs.Walks.{numbers, state};
 ghost use Rattle.jt_names.specs.Tops as tops;
 ghost use Rattle.jt_outline.specs.Outlines.{outline_of};
 ghost use Rattle.jt_program.specs.Plan as plan;
-ghost use Rattle.jt_program.specs.View.{plan_of, plans, body_plan, program_plan};
+ghost use Rattle.jt_program.specs.View.{plan_of, body_plan, program_plan};
 ghost use Rattle.jt_scopes.specs.Scopes.{scopes_of};
 ghost use Rattle.jt_syntax.specs.Tree.{TopTree};
 ghost use Rattle.jt_syntax.specs.View as trees;
@@ -18,10 +17,10 @@ ghost use Rattle.jt_syntax.specs.View as trees;
 use crate::binder::Binder;
 use crate::walk::Walk;
 use jt_names::{Functions, Names};
-use jt_nodes::{Allocated, Node, block, define, nothing, push, push_body};
+use jt_nodes::{Allocated, block, define, nothing, push, push_body};
 use jt_program::{Body, Code, Program};
 use jt_scopes::Scope;
-use jt_syntax::{Expr, Identifier, Script, Stmt, Top, TopForm};
+use jt_syntax::{Expr, Identifier, Script, Top, TopForm};
 use sqlite_items::Items;
 use std::alloc::{AllocError, Global};
 
@@ -33,35 +32,6 @@ fn constant_number(constants: &Names, name: &Identifier) -> usize
 }
 
 impl Binder<'_> {
-    /// Puts a function behind the others.
-    fn function(
-        &self,
-        walk: &mut Walk<'_>,
-        functions: &mut Items<Body>,
-        body: &[Stmt],
-    ) -> Allocated<()>
-        ensures { OnOk result (with (with_last (map body_plan functions.old)) (walked.walked_function (numbers self.now) (state walk.old) (trees.stmt_views body.now)) ≡ made (map body_plan functions.new) (state walk.new)) }
-    {
-        let variables = walk.count();
-        let parts = self.within(walk, body)?;
-        let code = block(self.alloc, parts)?;
-        push_body(functions, variables, code)
-    }
-
-    /// Puts a function with an expression for its body behind the others.
-    fn short_function(
-        &self,
-        walk: &mut Walk<'_>,
-        functions: &mut Items<Body>,
-        value: &Expr,
-    ) -> Allocated<()>
-        ensures { OnOk result (with (with_last (map body_plan functions.old)) (walked.walked_short (numbers self.now) (state walk.old) (trees.view value.now)) ≡ made (map body_plan functions.new) (state walk.new)) }
-    {
-        let variables = walk.count();
-        let code = self.inside(walk, value)?;
-        push_body(functions, variables, code)
-    }
-
     /// Adds the function that a form of the script makes, if it makes one.
     fn add_function(
         &self,
@@ -71,10 +41,15 @@ impl Binder<'_> {
     ) -> Allocated<()>
         ensures { OnOk result ((tops : List TopTree) → with (behind spec.one_more (map body_plan functions.new)) (walked.walked_functions (numbers self.now) (state walk.new) tops) ≡ with (behind spec.one_more (map body_plan functions.old)) (walked.walked_functions (numbers self.now) (state walk.old) (trees.top_view top.now ∷ tops))) }
     {
+        let variables = walk.count();
         match &top.form {
-            TopForm::Function(_, _, body) => self.function(walk, functions, body.as_slice()),
+            TopForm::Function(_, _, body) => {
+                let code = self.within(walk, body.as_slice())?;
+                push_body(functions, variables, code)
+            }
             TopForm::ShortFunction(_, _, value) => {
-                self.short_function(walk, functions, value.get())
+                let code = self.inside(walk, value.get())?;
+                push_body(functions, variables, code)
             }
             TopForm::Using | TopForm::Constant(_, _) | TopForm::Stmt(_) => Ok(()),
         }
@@ -118,8 +93,8 @@ impl Binder<'_> {
     }
 
     /// What the main task does.
-    fn main(&self, walk: &mut Walk<'_>, tops: &[Top]) -> Allocated<Items<Code>>
-        ensures { IfOk result (λ p. walked.walked_main (numbers self.now) (state walk.old) (trees.top_views tops.now) ≡ made (plans p) (state walk.new)) }
+    fn main(&self, walk: &mut Walk<'_>, tops: &[Top]) -> Allocated
+        ensures { IfOk result (λ p. with plan.block (walked.walked_main (numbers self.now) (state walk.old) (trees.top_views tops.now)) ≡ made (plan_of p) (state walk.new)) }
     {
         let mut parts = Items::new(self.alloc);
         for top in tops {
@@ -127,35 +102,28 @@ impl Binder<'_> {
         }
         let last = nothing(self.alloc)?;
         push(&mut parts, last)?;
-        Ok(parts)
+        block(self.alloc, parts)
     }
 
-    /// The main task's body, and the others behind it.
-    fn tasks(
-        &self,
-        variables: usize,
-        parts: Items<Code>,
-        others: Items<Body>,
-    ) -> Allocated<Items<Body>>
-        ensures { IfOk result (λ p. map body_plan p ≡ body_of variables (plan.block (plans parts)) ∷ map body_plan others) }
+    /// The main task's body with so many variables, and the others behind it.
+    fn tasks(&self, walk: &mut Walk<'_>, variables: usize, tops: &[Top]) -> Allocated<Items<Body>>
+        ensures { IfOk result (λ p. map body_plan p ≡ walked.tasks_of variables (walked.walked_main (numbers self.now) (state walk.old) (trees.top_views tops.now))) }
     {
+        let main = self.main(walk, tops)?;
         let mut tasks = Items::new(self.alloc);
-        let code = block(self.alloc, parts)?;
-        push_body(&mut tasks, variables, code)?;
-        tasks.append(others)?;
+        push_body(&mut tasks, variables, main)?;
+        tasks.append(walk.take_bodies(self.alloc))?;
         Ok(tasks)
     }
 
     /// The program, where the script's own scope begins next.
-    fn program(&self, walk: Walk<'_>, tops: &[Top]) -> Allocated<Program>
-        ensures { IfOk result (λ p. program_plan p ≡ walked.walked_program (numbers self.now) (state walk.entry) (trees.top_views tops.now)) }
+    fn program(&self, walk: &mut Walk<'_>, tops: &[Top]) -> Allocated<Program>
+        ensures { IfOk result (λ p. program_plan p ≡ walked.walked_program (numbers self.now) (state walk.old) (trees.top_views tops.now)) }
     {
-        let mut walk = walk;
         let variables = walk.count();
         walk.enter()?;
-        let functions = self.functions(&mut walk, tops)?;
-        let parts = self.main(&mut walk, tops)?;
-        let tasks = self.tasks(variables, parts, walk.into_bodies())?;
+        let functions = self.functions(walk, tops)?;
+        let tasks = self.tasks(walk, variables, tops)?;
         Ok(Program {
             constants: self.constants.len(),
             functions,
@@ -188,5 +156,8 @@ pub fn bind(
         constants,
         functions,
     };
-    binder.program(Walk::new(alloc, scopes), script.tops.as_slice())
+    let mut walk = Walk::new(alloc, scopes);
+    let program = binder.program(&mut walk, script.tops.as_slice());
+    drop(walk);
+    program
 }

@@ -13,6 +13,7 @@ use jt_program::Body;
 use jt_scopes::Scope;
 use sqlite_items::Items;
 use std::alloc::Global;
+use std::mem::replace;
 
 /// Where the walk over a script stands.
 #[derive(Drop)]
@@ -102,15 +103,10 @@ impl<'a> Walk<'a> {
         spawn(alloc, body, captured, is_awaited)
     }
 
-    /// The bodies of all tasks so far.
-    pub(crate) fn into_bodies(self) -> Items<Body>
-        ensures { map body_plan result ≡ (state self.entry).bodies }
+    /// Gives the bodies of all tasks so far away.
+    pub(crate) fn take_bodies(&mut self, alloc: Global) -> Items<Body>
+        ensures { map body_plan result ≡ (state self.old).bodies }
     {
-        let Walk {
-            chain: _,
-            coming: _,
-            bodies,
-        } = self;
-        bodies
+        replace(&mut self.bodies, Items::new(alloc))
     }
 }

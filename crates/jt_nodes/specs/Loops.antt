@@ -1,24 +1,24 @@
 -- Loops.
 use Rattle.std.specs.Prelude.{ℕ}
 use Rattle.jt_nodes.specs.declared.loops.Turn.{Turn}
-use Rattle.jt_program.specs.Plan.{Plan, Plans}
+use Rattle.jt_program.specs.Plan.{Plan}
 use Rattle.jt_program.specs.Plan as plan
-use Rattle.jt_program.specs.View.{plans}
+use Rattle.jt_program.specs.View.{plan_of}
 
 -- a loop's body, with the slot of the first of its own variables and how many it has
 pub record TurnPlan : Type 0 where
   pub start : ℕ
   pub count : ℕ
-  pub parts : Plans
+  pub body : Plan
 
-abbrev pub turn_of : ℕ → ℕ → Plans → TurnPlan
-turn_of start count ps = record { start = start; count = count; parts = ps }
+abbrev pub turn_of : ℕ → ℕ → Plan → TurnPlan
+turn_of start count p = record { start = start; count = count; body = p }
 
 abbrev pub turn_plan : Turn → TurnPlan
-turn_plan t = turn_of t.start t.count (plans t.parts)
+turn_plan t = turn_of t.start t.count (plan_of t.body)
 
 abbrev pub while_of : Plan → TurnPlan → Plan
-while_of t l = plan.while l.start l.count t (plan.block l.parts)
+while_of t l = plan.while l.start l.count t l.body
 
 abbrev pub for_of : Plan → Plan → TurnPlan → Plan
-for_of a b l = plan.for l.start l.count a b (plan.block l.parts)
+for_of a b l = plan.for l.start l.count a b l.body

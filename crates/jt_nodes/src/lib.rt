@@ -2,6 +2,7 @@
 #![tactic(auto)]
 
 mod branches;
+mod chains;
 mod lists;
 mod loops;
 mod lowered;
@@ -10,14 +11,13 @@ mod target;
 mod task;
 
 pub use branches::{conditional, if_else};
-pub use lists::{push, push_arm, push_operand, push_text, push_value};
+pub use chains::{Operands, guard};
+pub use lists::{push, push_arm, push_text, push_value};
 pub use loops::{Turn, for_loop, while_loop};
-pub use lowered::{
-    assignment, callee, comparison_operator, nothing, number, operation_operator, written,
-};
+pub use lowered::{assignment, callee, nothing, number, written};
 pub use nodes::{
-    Allocated, Node, block, break_loop, call, comparison, connection, continue_loop, define, error,
-    guard, literal, operation, operation_of_two, print, return_value, sync, unary,
+    Allocated, Node, block, break_loop, call, continue_loop, define, error, literal,
+    operation_of_two, print, return_value, sync, unary,
 };
 pub use target::Target;
 pub use task::{push_body, spawn};

@@ -18,7 +18,7 @@ pub fn push(codes: &mut Items<Code>, code: Node) -> Allocated<()>
 
 /// Puts one more operand behind the others, with the operator between.
 #[tactic(auto, using(crate::proofs::Pushed::map_pushed))]
-pub fn push_operand<O: Copy>(
+pub(crate) fn push_operand<O: Copy>(
     operands: &mut Items<(O, Code)>,
     operator: O,
     code: Node,

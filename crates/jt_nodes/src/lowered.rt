@@ -1,8 +1,7 @@
 //! What literals, operators and calls of a script are in a program.
 
-ghost use Rattle.std.specs.Prelude.{◌≡◌, IfOk, option_and_then};
+ghost use Rattle.std.specs.Prelude.{◌≡◌, IfOk};
 ghost use Rattle.jt_nodes.specs.Lowered as spec;
-ghost use Rattle.jt_forms.specs.Functions.{named};
 ghost use Rattle.jt_program.specs.Plan as plan;
 ghost use Rattle.jt_program.specs.View.{plan_of};
 
@@ -40,7 +39,7 @@ pub fn written(alloc: Global, target: Target) -> Allocated
 }
 
 /// The operator of an operation: in a chain of one of the classes from `+` on all are arithmetic.
-pub fn operation_operator(operator: BinaryOperator) -> ArithmeticOperator
+pub(crate) fn operation_operator(operator: BinaryOperator) -> ArithmeticOperator
     ensures { result ≡ spec.operation_of operator }
 {
     match operator {
@@ -50,7 +49,7 @@ pub fn operation_operator(operator: BinaryOperator) -> ArithmeticOperator
 }
 
 /// The operator of a comparison: in a chain of comparisons all are such.
-pub fn comparison_operator(operator: BinaryOperator) -> ComparisonOperator
+pub(crate) fn comparison_operator(operator: BinaryOperator) -> ComparisonOperator
     ensures { result ≡ spec.comparison_of operator }
 {
     match operator {
@@ -114,29 +113,12 @@ fn built_in(function: Function) -> Option<BuiltIn>
     }
 }
 
-/// How many functions stand before the first of this name, all of them if there is none.
-fn function_number(functions: &Functions, name: &[u8]) -> usize
-    ensures { result ≡ spec.function_number functions.now name.now }
-{
-    functions.index(name).unwrap_or(functions.len())
-}
-
-/// The function of the language with this name, where a program calls it.
-fn named_built_in(name: &[u8]) -> Option<BuiltIn>
-    ensures { result ≡ option_and_then spec.built_in_of (named name.now) }
-{
-    match Function::named(name) {
-        None => None,
-        Some(function) => built_in(function),
-    }
-}
-
 /// What a call of this name calls: a function of the language before one of the script.
 pub fn callee(functions: &Functions, name: &[u8]) -> Callee
     ensures { result ≡ spec.callee_of functions.now name.now }
 {
-    match named_built_in(name) {
+    match Function::named(name).and_then(built_in) {
         Some(function) => Callee::BuiltIn(function),
-        None => Callee::Function(function_number(functions, name)),
+        None => Callee::Function(functions.index(name).unwrap_or(functions.len())),
     }
 }

@@ -2,13 +2,12 @@
 
 ghost use Rattle.std.specs.Prelude.{◌≡◌, IfOk, map};
 ghost use Rattle.jt_nodes.specs.Lowered.{operated};
-ghost use Rattle.jt_nodes.specs.Nodes.{before};
 ghost use Rattle.jt_program.specs.Plan as plan;
-ghost use Rattle.jt_program.specs.View.{plan_of, plans, operands_of, operand_plan, comparisons_of, pieces_of, piece_plan};
+ghost use Rattle.jt_program.specs.View.{plan_of, plans, pieces_of, piece_plan};
 
-use crate::lists::{push, push_operand};
+use crate::lists::push_operand;
 use jt_program::{Callee, Code, Literal, Piece};
-use jt_syntax::{ArithmeticOperator, ComparisonOperator, Connective, UnaryOperator};
+use jt_syntax::{ArithmeticOperator, UnaryOperator};
 use sqlite_items::{Boxed, Items};
 use std::alloc::{AllocError, Global};
 
@@ -36,16 +35,6 @@ pub fn unary(alloc: Global, operator: UnaryOperator, operand: Node) -> Allocated
     Boxed::new(alloc, Code::Unary(operator, operand))
 }
 
-pub fn operation(
-    alloc: Global,
-    first: Node,
-    operands: Items<(ArithmeticOperator, Code)>,
-) -> Allocated
-    ensures { IfOk result (λ p. plan_of p ≡ plan.operation (plan_of first) (operands_of (map operand_plan operands))) }
-{
-    Boxed::new(alloc, Code::Operation(first, operands))
-}
-
 /// An operation with one operand behind the first.
 pub fn operation_of_two(
     alloc: Global,
@@ -57,44 +46,7 @@ pub fn operation_of_two(
 {
     let mut operands = Items::new(alloc);
     push_operand(&mut operands, operator, second)?;
-    operation(alloc, first, operands)
-}
-
-pub fn comparison(
-    alloc: Global,
-    first: Node,
-    comparisons: Items<(ComparisonOperator, Code)>,
-) -> Allocated
-    ensures { IfOk result (λ p. plan_of p ≡ plan.comparison (plan_of first) (comparisons_of (map operand_plan comparisons))) }
-{
-    Boxed::new(alloc, Code::Comparison(first, comparisons))
-}
-
-pub fn connection(
-    alloc: Global,
-    connective: Connective,
-    first: Node,
-    operands: Items<Code>,
-) -> Allocated
-    ensures { IfOk result (λ p. plan_of p ≡ plan.connection connective (plan_of first) (plans operands)) }
-{
-    Boxed::new(alloc, Code::Connection(connective, first, operands))
-}
-
-/// A guard: its operands, and its jump as the last one.
-#[tactic(auto, using(crate::proofs::Pushed::before_pushed))]
-pub fn guard(
-    alloc: Global,
-    connective: Connective,
-    first: Node,
-    operands: Items<Code>,
-    last: Node,
-) -> Allocated
-    ensures { IfOk result (λ p. plan_of p ≡ plan.connection connective (plan_of first) (before (plans operands) (plan.plan (plan_of last) plan.no_plans))) }
-{
-    let mut operands = operands;
-    push(&mut operands, last)?;
-    connection(alloc, connective, first, operands)
+    Boxed::new(alloc, Code::Operation(first, operands))
 }
 
 pub fn block(alloc: Global, parts: Items<Code>) -> Allocated

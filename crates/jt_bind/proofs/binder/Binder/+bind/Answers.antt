@@ -1,100 +1,94 @@
 -- The step and the end of each loop, and what has items.
-use Rattle.std.proofs.Common.{◌≡◌, IfOk, ap, refl, sym, subst, ◌∙◌, map}
+use Rattle.std.proofs.Common.{◌≡◌, ◌∷◌, IfOk, ap, refl, sym, subst, ◌∙◌, map}
 use Rattle.std.specs.Prelude.{option_copied}
+use Rattle.jt_syntax.specs.Tree.{Terms}
 use Rattle.jt_syntax.specs.Tree as tree
 use Rattle.jt_syntax.specs.View.{view, views, item_view, item_views, term_view, terms_of, arm_view, arms_of, jump_view, stmt_view, stmt_views}
 use Rattle.jt_syntax.proofs.Views.{view-Chain, view-Guard}
 use Rattle.jt_program.specs.Plan.{Plan}
 use Rattle.jt_program.specs.Plan as plan
 use Rattle.jt_program.specs.View as code
-use Rattle.jt_program.specs.View.{plan_of, choices_of, piece_before, piece_plan, operand_plan, arm_plan}
-use Rattle.jt_bind.specs.Behind.{with_last, operand_before, comparison_before, choice_before}
+use Rattle.jt_program.specs.View.{plan_of, plans, choices_of, piece_before, pieces_of, piece_plan, arm_plan}
+use Rattle.jt_bind.specs.Behind.{with_last, choice_before}
 use Rattle.jt_bind.specs.Bound.{piece_of}
 use Rattle.jt_nodes.specs.Loops.{while_of, turn_plan}
-use Rattle.jt_nodes.specs.Lowered.{operation_of, comparison_of}
-use Rattle.jt_bind.specs.Made.{Made, made, with, both}
+use Rattle.jt_nodes.specs.Chains.{operands_plan, none_of, all_more, chain_of, chained, guard_of, guarded}
+use Rattle.jt_nodes.specs.Lowered.{callee_of}
+use Rattle.jt_bind.specs.Made.{Made, made, with, both, three}
 use Rattle.jt_bind.specs.States.{State, entered, turned}
-use Rattle.jt_bind.specs.Walked.{walked, walked_all, walked_pieces, walked_operands, walked_comparisons, walked_connected, walked_arms, walked_step, walked_steps}
+use Rattle.jt_bind.specs.Walked.{walked, walked_all, walked_pieces, walked_terms, walked_arms, walked_leap, walked_step, walked_steps}
 use Rattle.jt_bind.specs.Walks.{numbers, state}
 use Rattle.jt_bind.proofs.Arms.{arm_made, branch_of, branch_made}
-use Rattle.jt_bind.proofs.Behind.{grown, ended, plans_behind, operands_behind, comparisons_behind, choices_behind, pieces_behind}
+use Rattle.jt_bind.proofs.Behind.{taken, grown, none_left, ended, plans_behind, choices_behind, pieces_behind}
 use Rattle.jt_bind.proofs.Outcomes.{code_made, list_made}
 use Rattle.jt_bind.proofs.Texts.{value_piece, value_view}
 use Rattle.jt_bind.proofs.binder.Binder.+bind.Goals as goal
 
-pub statements-loop-statement-preserved : goal.statements-loop-statement-preserved
-statements-loop-statement-preserved t c =
-    grown plan.plan (λ s ys. walked_steps (numbers c.args.self.now) s (stmt_views ys)) c.args.statements.now c.loop-statement.statement-index c.statement-item.result (map plan_of c.loop-statement.codes) (map plan_of c.push.new.codes) (plan_of c.in_ok-code.code) (state c.loop-statement.walk) (state c.statement.new.walk) _
+pub block-loop-statement-preserved : goal.block-loop-statement-preserved
+block-loop-statement-preserved t c =
+    grown plan.plan (λ s ys. walked_steps (numbers c.args.self.now) s (stmt_views ys)) c.args.body.now c.loop-statement.statement-index c.statement-item.result (map plan_of c.loop-statement.codes) (map plan_of c.push.new.codes) (plan_of c.in_ok-code.code) (state c.loop-statement.walk) (state c.statement.new.walk) _
     c.loop-statement-test.true c.statement-item.is c.in_ok-push.ensures
     (λ rest. ap (λ m. both plan.plan m (λ s. walked_steps (numbers c.args.self.now) s (stmt_views rest))) c.in_ok-code.ensures)
     c.loop-statement.invariant
 
-pub statements-returns : goal.statements-returns
-statements-returns t c =
-    ended plan.plan (λ s ys. walked_steps (numbers c.args.self.now) s (stmt_views ys)) c.args.statements.now c.loop-statement.statement-index (map plan_of c.loop-statement.codes) (state c.loop-statement.walk) plan.no_plans _
+pub block-returns : goal.block-returns
+block-returns t c =
+    code_made c.block.result _ (plan.block (plans c.loop-statement.codes)) (state c.loop-statement.walk)
+    (ap (with plan.block) (ended plan.plan (λ s ys. walked_steps (numbers c.args.self.now) s (stmt_views ys)) c.args.body.now c.loop-statement.statement-index (map plan_of c.loop-statement.codes) (state c.loop-statement.walk) plan.no_plans _
     c.loop-statement-test.false refl c.loop-statement.invariant
-    ∙ ap (λ b. made b (state c.loop-statement.walk)) (plans_behind (map plan_of c.loop-statement.codes))
+    ∙ ap (λ b. made b (state c.loop-statement.walk)) (plans_behind (map plan_of c.loop-statement.codes))))
+    c.block.ensures
 
-pub expressions-loop-expression-preserved : goal.expressions-loop-expression-preserved
-expressions-loop-expression-preserved t c =
-    let one : walked (numbers c.args.self.now) (state c.loop-expression.walk) (view c.expression-item.result) ≡ made (plan_of c.in_ok-code.code) (state c.expression.new.walk) = ap (λ e. walked (numbers c.args.self.now) (state c.loop-expression.walk) (view e)) (sym c.get.ensures) ∙ c.in_ok-code.ensures in
-    grown plan.plan (λ s ys. walked_all (numbers c.args.self.now) s (views ys)) c.args.expressions.now c.loop-expression.expression-index c.expression-item.result (map plan_of c.loop-expression.codes) (map plan_of c.push.new.codes) (plan_of c.in_ok-code.code) (state c.loop-expression.walk) (state c.expression.new.walk) _
-    c.loop-expression-test.true c.expression-item.is c.in_ok-push.ensures
+pub call-loop-argument-preserved : goal.call-loop-argument-preserved
+call-loop-argument-preserved t c =
+    let one : walked (numbers c.args.self.now) (state c.loop-argument.walk) (view c.argument-item.result) ≡ made (plan_of c.in_ok-code.code) (state c.expression.new.walk) = ap (λ e. walked (numbers c.args.self.now) (state c.loop-argument.walk) (view e)) (sym c.get.ensures) ∙ c.in_ok-code.ensures in
+    grown plan.plan (λ s ys. walked_all (numbers c.args.self.now) s (views ys)) c.args.arguments.now c.loop-argument.argument-index c.argument-item.result (map plan_of c.loop-argument.codes) (map plan_of c.push.new.codes) (plan_of c.in_ok-code.code) (state c.loop-argument.walk) (state c.expression.new.walk) _
+    c.loop-argument-test.true c.argument-item.is c.in_ok-push.ensures
     (λ rest. ap (λ m. both plan.plan m (λ s. walked_all (numbers c.args.self.now) s (views rest))) one)
-    c.loop-expression.invariant
+    c.loop-argument.invariant
 
-pub expressions-returns : goal.expressions-returns
-expressions-returns t c =
-    ended plan.plan (λ s ys. walked_all (numbers c.args.self.now) s (views ys)) c.args.expressions.now c.loop-expression.expression-index (map plan_of c.loop-expression.codes) (state c.loop-expression.walk) plan.no_plans _
-    c.loop-expression-test.false refl c.loop-expression.invariant
-    ∙ ap (λ b. made b (state c.loop-expression.walk)) (plans_behind (map plan_of c.loop-expression.codes))
-
-pub connected-loop-term-preserved : goal.connected-loop-term-preserved
-connected-loop-term-preserved t c =
-    let one : walked (numbers c.args.self.now) (state c.loop-term.walk) (view c.term-item.result.1) ≡ made (plan_of c.in_ok-code.code) (state c.expression.new.walk) = ap (λ e. walked (numbers c.args.self.now) (state c.loop-term.walk) (view e)) (sym c.get.ensures) ∙ c.in_ok-code.ensures in
-    grown plan.plan (λ s ys. walked_connected (numbers c.args.self.now) s (terms_of (map term_view ys))) c.args.terms.now c.loop-term.term-index c.term-item.result (map plan_of c.loop-term.codes) (map plan_of c.push.new.codes) (plan_of c.in_ok-code.code) (state c.loop-term.walk) (state c.expression.new.walk) _
-    c.loop-term-test.true c.term-item.is c.in_ok-push.ensures
-    (λ rest. ap (λ m. both plan.plan m (λ s. walked_connected (numbers c.args.self.now) s (terms_of (map term_view rest)))) one)
-    c.loop-term.invariant
-
-pub connected-returns : goal.connected-returns
-connected-returns t c =
-    ended plan.plan (λ s ys. walked_connected (numbers c.args.self.now) s (terms_of (map term_view ys))) c.args.terms.now c.loop-term.term-index (map plan_of c.loop-term.codes) (state c.loop-term.walk) plan.no_plans _
-    c.loop-term-test.false refl c.loop-term.invariant
-    ∙ ap (λ b. made b (state c.loop-term.walk)) (plans_behind (map plan_of c.loop-term.codes))
+pub call-returns : goal.call-returns
+call-returns t c =
+    code_made c.call.result _ (plan.call c.callee-callee.result (plans c.loop-argument.codes)) (state c.loop-argument.walk)
+    (ap (with (plan.call (callee_of (numbers c.args.self.now).functions c.args.function.now.name))) (ended plan.plan (λ s ys. walked_all (numbers c.args.self.now) s (views ys)) c.args.arguments.now c.loop-argument.argument-index (map plan_of c.loop-argument.codes) (state c.loop-argument.walk) plan.no_plans _
+    c.loop-argument-test.false refl c.loop-argument.invariant
+    ∙ ap (λ b. made b (state c.loop-argument.walk)) (plans_behind (map plan_of c.loop-argument.codes)))
+    ∙ ap (λ f. made (plan.call f (plans c.loop-argument.codes)) (state c.loop-argument.walk)) (sym (c.callee-callee.ensures ∙ ap (callee_of (numbers c.args.self.now).functions) c.as_slice.ensures)))
+    c.call.ensures
 
 pub operands-loop-term-preserved : goal.operands-loop-term-preserved
 operands-loop-term-preserved t c =
-    let one : walked (numbers c.args.self.now) (state c.loop-term.walk) (view c.term-item.result.1) ≡ made (plan_of c.in_ok-code.code) (state c.expression.new.walk) = ap (λ e. walked (numbers c.args.self.now) (state c.loop-term.walk) (view e)) (sym c.get.ensures) ∙ c.in_ok-code.ensures in
-    grown operand_before (λ s ys. walked_operands (numbers c.args.self.now) s (terms_of (map term_view ys))) c.args.terms.now c.loop-term.term-index c.term-item.result (map operand_plan c.loop-term.operands) (map operand_plan c.push_operand.new.operands) (c.operation_operator.result, plan_of c.in_ok-code.code) (state c.loop-term.walk) (state c.expression.new.walk) _
-    c.loop-term-test.true c.term-item.is c.in_ok-push_operand.ensures
-    (λ rest. ap (λ m. both (plan.operand (operation_of c.term-item.result.0)) m (λ s. walked_operands (numbers c.args.self.now) s (terms_of (map term_view rest)))) one
-    ∙ ap (λ o. with (plan.operand o (plan_of c.in_ok-code.code)) (walked_operands (numbers c.args.self.now) (state c.expression.new.walk) (terms_of (map term_view rest)))) (sym c.operation_operator.ensures))
+    let one : walked (numbers c.args.self.now) (state c.loop-term.walk) (view c.term-item.result.1) ≡ made (plan_of c.in_ok-operand.operand) (state c.expression.new.walk) = ap (λ e. walked (numbers c.args.self.now) (state c.loop-term.walk) (view e)) (sym c.get.ensures) ∙ c.in_ok-operand.ensures in
+    taken (λ ps s ys. with (all_more ps) (walked_terms (numbers c.args.self.now) s (terms_of (map term_view ys)))) c.args.terms.now c.loop-term.term-index c.term-item.result (operands_plan c.loop-term.operands) (operands_plan c.push.new.self) (state c.loop-term.walk) (state c.expression.new.walk) _
+    c.loop-term-test.true c.term-item.is
+    (λ rest. ap (λ m. with (all_more (operands_plan c.loop-term.operands)) (both (λ p ps. (c.term-item.result.0, p) ∷ ps) m (λ s. walked_terms (numbers c.args.self.now) s (terms_of (map term_view rest))))) one
+    ∙ ap (λ ps. with (all_more ps) (walked_terms (numbers c.args.self.now) (state c.expression.new.walk) (terms_of (map term_view rest)))) (sym c.in_ok-push.ensures))
     c.loop-term.invariant
 
 pub operands-returns : goal.operands-returns
 operands-returns t c =
-    ended operand_before (λ s ys. walked_operands (numbers c.args.self.now) s (terms_of (map term_view ys))) c.args.terms.now c.loop-term.term-index (map operand_plan c.loop-term.operands) (state c.loop-term.walk) plan.no_operands _
-    c.loop-term-test.false refl c.loop-term.invariant
-    ∙ ap (λ b. made b (state c.loop-term.walk)) (operands_behind (map operand_plan c.loop-term.operands))
+    none_left (λ ps s ys. with (all_more ps) (walked_terms (numbers c.args.self.now) s (terms_of (map term_view ys)))) c.args.terms.now c.loop-term.term-index (operands_plan c.loop-term.operands) (state c.loop-term.walk) _
+    c.loop-term-test.false c.loop-term.invariant
 
-pub comparisons-loop-term-preserved : goal.comparisons-loop-term-preserved
-comparisons-loop-term-preserved t c =
-    let one : walked (numbers c.args.self.now) (state c.loop-term.walk) (view c.term-item.result.1) ≡ made (plan_of c.in_ok-code.code) (state c.expression.new.walk) = ap (λ e. walked (numbers c.args.self.now) (state c.loop-term.walk) (view e)) (sym c.get.ensures) ∙ c.in_ok-code.ensures in
-    grown comparison_before (λ s ys. walked_comparisons (numbers c.args.self.now) s (terms_of (map term_view ys))) c.args.terms.now c.loop-term.term-index c.term-item.result (map operand_plan c.loop-term.comparisons) (map operand_plan c.push_operand.new.operands) (c.comparison_operator.result, plan_of c.in_ok-code.code) (state c.loop-term.walk) (state c.expression.new.walk) _
-    c.loop-term-test.true c.term-item.is c.in_ok-push_operand.ensures
-    (λ rest. ap (λ m. both (plan.compared (comparison_of c.term-item.result.0)) m (λ s. walked_comparisons (numbers c.args.self.now) s (terms_of (map term_view rest)))) one
-    ∙ ap (λ o. with (plan.compared o (plan_of c.in_ok-code.code)) (walked_comparisons (numbers c.args.self.now) (state c.expression.new.walk) (terms_of (map term_view rest)))) (sym c.comparison_operator.ensures))
-    c.loop-term.invariant
+pub chain-returns : goal.chain-returns
+chain-returns t c =
+    code_made c.into_chain.result _ (chain_of (operands_plan c.in_ok-operands.operands) (plan_of c.in_ok-first.first)) (state c.operands.new.walk)
+    (ap (λ m. both (chained c.args.class) m (λ s. walked_terms (numbers c.args.self.now) s (terms_of (map term_view c.args.terms.now)))) c.in_ok-first.ensures
+    ∙ ap (with (λ ps. chain_of ps (plan_of c.in_ok-first.first))) c.in_ok-operands.ensures)
+    c.into_chain.ensures
 
-pub comparisons-returns : goal.comparisons-returns
-comparisons-returns t c =
-    ended comparison_before (λ s ys. walked_comparisons (numbers c.args.self.now) s (terms_of (map term_view ys))) c.args.terms.now c.loop-term.term-index (map operand_plan c.loop-term.comparisons) (state c.loop-term.walk) plan.no_comparisons _
-    c.loop-term-test.false refl c.loop-term.invariant
-    ∙ ap (λ b. made b (state c.loop-term.walk)) (comparisons_behind (map operand_plan c.loop-term.comparisons))
+pub guard-returns : goal.guard-returns
+guard-returns t c =
+    let terms : Terms = terms_of (map term_view c.args.terms.now) in
+    code_made c.guard.result _ (guard_of c.args.connective (operands_plan c.in_ok-operands.operands) (plan_of c.in_ok-last.last) (plan_of c.in_ok-first.first)) (state c.jump.new.walk)
+    (ap (λ m. three (guarded c.args.connective) m (λ s. walked_terms (numbers c.args.self.now) s terms) (λ s. walked_leap (numbers c.args.self.now) s (jump_view c.args.jump.now))) c.in_ok-first.ensures
+    ∙ (ap (λ m. both (λ ps l. guard_of c.args.connective ps l (plan_of c.in_ok-first.first)) m (λ s. walked_leap (numbers c.args.self.now) s (jump_view c.args.jump.now)))
+    (ap (λ k. with (all_more (none_of k)) (walked_terms (numbers c.args.self.now) (state c.expression.new.walk) terms)) (sym c.class.ensures) ∙ c.in_ok-operands.ensures)
+    ∙ ap (with (λ l. guard_of c.args.connective (operands_plan c.in_ok-operands.operands) l (plan_of c.in_ok-first.first))) c.in_ok-last.ensures))
+    c.guard.ensures
 
-pub pieces-loop-item-preserved : goal.pieces-loop-item-preserved
-pieces-loop-item-preserved t c =
+pub print-loop-item-preserved : goal.print-loop-item-preserved
+print-loop-item-preserved t c =
     let one : Made State Plan = walked (numbers c.args.self.now) (state c.loop-item.walk) (item_view c.item-item.result) in
     let done : one.state ≡ state c.piece.new.walk = ap (λ m. m.state) c.in_ok-piece.ensures in
     let more : with_last (map piece_plan c.loop-item.pieces) (piece_of (item_view c.item-item.result) one.it) ≡ map piece_plan c.piece.new.pieces = ap (λ m. m.it) c.in_ok-piece.ensures in
@@ -103,11 +97,13 @@ pieces-loop-item-preserved t c =
     (λ rest. ap (λ s. with (piece_before (piece_of (item_view c.item-item.result) one.it)) (walked_pieces (numbers c.args.self.now) s (item_views rest))) done)
     c.loop-item.invariant
 
-pub pieces-returns : goal.pieces-returns
-pieces-returns t c =
-    ended piece_before (λ s ys. walked_pieces (numbers c.args.self.now) s (item_views ys)) c.args.items.now c.loop-item.item-index (map piece_plan c.loop-item.pieces) (state c.loop-item.walk) plan.no_pieces _
+pub print-returns : goal.print-returns
+print-returns t c =
+    code_made c.print.result _ (plan.print (pieces_of (map piece_plan c.loop-item.pieces))) (state c.loop-item.walk)
+    (ap (with plan.print) (ended piece_before (λ s ys. walked_pieces (numbers c.args.self.now) s (item_views ys)) c.args.items.now c.loop-item.item-index (map piece_plan c.loop-item.pieces) (state c.loop-item.walk) plan.no_pieces _
     c.loop-item-test.false refl c.loop-item.invariant
-    ∙ ap (λ b. made b (state c.loop-item.walk)) (pieces_behind (map piece_plan c.loop-item.pieces))
+    ∙ ap (λ b. made b (state c.loop-item.walk)) (pieces_behind (map piece_plan c.loop-item.pieces))))
+    c.print.ensures
 
 pub arms-loop-arm-preserved : goal.arms-loop-arm-preserved
 arms-loop-arm-preserved t c =
@@ -126,7 +122,7 @@ arms-returns t c =
 pub while_loop-returns : goal.while_loop-returns
 while_loop-returns t c =
     code_made c.while_loop.result _ (while_of (plan_of c.in_ok-test.test) (turn_plan c.in_ok-turn.turn)) (state c.turn.new.walk)
-    (ap (λ m. both while_of m (λ s. turned s (walked_steps (numbers c.args.self.now) (entered s) (stmt_views c.args.body.now)))) c.in_ok-test.ensures ∙ ap (with (while_of (plan_of c.in_ok-test.test))) c.in_ok-turn.ensures)
+    (ap (λ m. both while_of m (λ s. turned s (with plan.block (walked_steps (numbers c.args.self.now) (entered s) (stmt_views c.args.body.now))))) c.in_ok-test.ensures ∙ ap (with (while_of (plan_of c.in_ok-test.test))) c.in_ok-turn.ensures)
     c.while_loop.ensures
 
 pub branch-returns : goal.branch-returns

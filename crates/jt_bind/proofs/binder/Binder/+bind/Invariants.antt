@@ -11,10 +11,11 @@ use Rattle.jt_syntax.specs.declared.script.Arm.{size-Arm}
 use Rattle.jt_syntax.specs.declared.script.Jump.{size-Jump}
 use Rattle.jt_syntax.specs.declared.script.Stmt.{Stmt, size-Stmt}
 use Rattle.jt_program.specs.Plan as plan
-use Rattle.jt_program.specs.View.{plan_of, operand_plan, arm_plan, piece_plan, piece_before}
-use Rattle.jt_bind.specs.Behind.{behind, operand_before, comparison_before, choice_before}
+use Rattle.jt_program.specs.View.{plan_of, arm_plan, piece_plan, piece_before}
+use Rattle.jt_nodes.specs.Chains.{operands_plan, none_of, all_more}
+use Rattle.jt_bind.specs.Behind.{behind, choice_before}
 use Rattle.jt_bind.specs.Made.{with}
-use Rattle.jt_bind.specs.Walked.{walked_all, walked_pieces, walked_operands, walked_comparisons, walked_connected, walked_arms, walked_steps}
+use Rattle.jt_bind.specs.Walked.{walked_all, walked_pieces, walked_terms, walked_arms, walked_steps}
 use Rattle.jt_bind.specs.Walks.{numbers, state}
 use Rattle.jt_bind.proofs.binder.Binder.+bind.Given as goal
 
@@ -32,14 +33,11 @@ decreases-inside l = 8 * (size-Expr l.value.now) + 1
 abbrev pub decreases-task : goal.decreases-task
 decreases-task l = 8 * (size-Expr l.body.now) + 2
 
-abbrev pub decreases-statements : goal.decreases-statements
-decreases-statements l = 8 * (most size-Stmt l.statements.now) + 1
-
 abbrev pub decreases-within : goal.decreases-within
 decreases-within l = 8 * (most size-Stmt l.body.now) + 2
 
 abbrev pub decreases-block : goal.decreases-block
-decreases-block l = 8 * (most size-Stmt l.body.now) + 2
+decreases-block l = 8 * (most size-Stmt l.body.now) + 1
 
 abbrev pub decreases-turn : goal.decreases-turn
 decreases-turn l = 8 * (most size-Stmt l.body.now) + 3
@@ -53,44 +51,23 @@ decreases-jump l = 8 * (size-Jump l.jump.now)
 abbrev pub decreases-guard : goal.decreases-guard
 decreases-guard l = 8 * (max (size-Expr l.first.now) (max (most (λ t. size-Expr t.1) l.terms.now) (size-Jump l.jump.now))) + 2
 
-abbrev pub decreases-expressions : goal.decreases-expressions
-decreases-expressions l = 8 * (most size-Expr l.expressions.now) + 1
-
 abbrev pub decreases-call : goal.decreases-call
-decreases-call l = 8 * (most size-Expr l.arguments.now) + 2
+decreases-call l = 8 * (most size-Expr l.arguments.now) + 1
 
 abbrev pub decreases-piece : goal.decreases-piece
 decreases-piece l = 8 * (size-Item l.item.now)
 
-abbrev pub decreases-pieces : goal.decreases-pieces
-decreases-pieces l = 8 * (most size-Item l.items.now) + 1
-
 abbrev pub decreases-print : goal.decreases-print
-decreases-print l = 8 * (most size-Item l.items.now) + 2
+decreases-print l = 8 * (most size-Item l.items.now) + 1
 
 abbrev pub decreases-power : goal.decreases-power
 decreases-power l = 8 * (max (size-Expr l.base.now) (size-Expr l.exponent.now)) + 1
 
-abbrev pub decreases-connected : goal.decreases-connected
-decreases-connected l = 8 * (most (λ t. size-Expr t.1) l.terms.now) + 1
+abbrev pub decreases-chain : goal.decreases-chain
+decreases-chain l = 8 * (max (size-Expr l.first.now) (most (λ t. size-Expr t.1) l.terms.now)) + 2
 
 abbrev pub decreases-operands : goal.decreases-operands
 decreases-operands l = 8 * (most (λ t. size-Expr t.1) l.terms.now) + 1
-
-abbrev pub decreases-comparisons : goal.decreases-comparisons
-decreases-comparisons l = 8 * (most (λ t. size-Expr t.1) l.terms.now) + 1
-
-abbrev pub decreases-connection : goal.decreases-connection
-decreases-connection l = 8 * (max (size-Expr l.first.now) (most (λ t. size-Expr t.1) l.terms.now)) + 2
-
-abbrev pub decreases-operation : goal.decreases-operation
-decreases-operation l = 8 * (max (size-Expr l.first.now) (most (λ t. size-Expr t.1) l.terms.now)) + 2
-
-abbrev pub decreases-comparison : goal.decreases-comparison
-decreases-comparison l = 8 * (max (size-Expr l.first.now) (most (λ t. size-Expr t.1) l.terms.now)) + 2
-
-abbrev pub decreases-chain : goal.decreases-chain
-decreases-chain l = 8 * (max (size-Expr l.first.now) (most (λ t. size-Expr t.1) l.terms.now)) + 3
 
 abbrev pub decreases-conditional : goal.decreases-conditional
 decreases-conditional l = 8 * (max (size-Expr l.test.now) (max (size-Expr l.value.now) (size-Expr l.otherwise.now))) + 1
@@ -110,35 +87,25 @@ decreases-while_loop l = 8 * (max (size-Expr l.test.now) (most size-Stmt l.body.
 abbrev pub decreases-for_loop : goal.decreases-for_loop
 decreases-for_loop l = 8 * (max (size-Expr l.low.now) (max (size-Expr l.high.now) (most size-Stmt l.body.now))) + 4
 
-abbrev pub invariant-statements-loop-statement : goal.invariant-statements-loop-statement
-invariant-statements-loop-statement l =
-    with (behind plan.plan (map plan_of l.codes)) (walked_steps (numbers l.fn.self) (state l.walk) (stmt_views (drop l.statement-index l.statements)))
-    ≡ walked_steps (numbers l.fn.self) (state l.fn.walk) (stmt_views l.fn.statements)
+abbrev pub invariant-block-loop-statement : goal.invariant-block-loop-statement
+invariant-block-loop-statement l =
+    with (behind plan.plan (map plan_of l.codes)) (walked_steps (numbers l.fn.self) (state l.walk) (stmt_views (drop l.statement-index l.body)))
+    ≡ walked_steps (numbers l.fn.self) (state l.fn.walk) (stmt_views l.fn.body)
 
-abbrev pub invariant-expressions-loop-expression : goal.invariant-expressions-loop-expression
-invariant-expressions-loop-expression l =
-    with (behind plan.plan (map plan_of l.codes)) (walked_all (numbers l.fn.self) (state l.walk) (views (drop l.expression-index l.expressions)))
-    ≡ walked_all (numbers l.fn.self) (state l.fn.walk) (views l.fn.expressions)
+abbrev pub invariant-call-loop-argument : goal.invariant-call-loop-argument
+invariant-call-loop-argument l =
+    with (behind plan.plan (map plan_of l.codes)) (walked_all (numbers l.fn.self) (state l.walk) (views (drop l.argument-index l.arguments)))
+    ≡ walked_all (numbers l.fn.self) (state l.fn.walk) (views l.fn.arguments)
 
-abbrev pub invariant-connected-loop-term : goal.invariant-connected-loop-term
-invariant-connected-loop-term l =
-    with (behind plan.plan (map plan_of l.codes)) (walked_connected (numbers l.fn.self) (state l.walk) (terms_of (map term_view (drop l.term-index l.terms))))
-    ≡ walked_connected (numbers l.fn.self) (state l.fn.walk) (terms_of (map term_view l.fn.terms))
-
-abbrev pub invariant-pieces-loop-item : goal.invariant-pieces-loop-item
-invariant-pieces-loop-item l =
+abbrev pub invariant-print-loop-item : goal.invariant-print-loop-item
+invariant-print-loop-item l =
     with (behind piece_before (map piece_plan l.pieces)) (walked_pieces (numbers l.fn.self) (state l.walk) (item_views (drop l.item-index l.items)))
     ≡ walked_pieces (numbers l.fn.self) (state l.fn.walk) (item_views l.fn.items)
 
 abbrev pub invariant-operands-loop-term : goal.invariant-operands-loop-term
 invariant-operands-loop-term l =
-    with (behind operand_before (map operand_plan l.operands)) (walked_operands (numbers l.fn.self) (state l.walk) (terms_of (map term_view (drop l.term-index l.terms))))
-    ≡ walked_operands (numbers l.fn.self) (state l.fn.walk) (terms_of (map term_view l.fn.terms))
-
-abbrev pub invariant-comparisons-loop-term : goal.invariant-comparisons-loop-term
-invariant-comparisons-loop-term l =
-    with (behind comparison_before (map operand_plan l.comparisons)) (walked_comparisons (numbers l.fn.self) (state l.walk) (terms_of (map term_view (drop l.term-index l.terms))))
-    ≡ walked_comparisons (numbers l.fn.self) (state l.fn.walk) (terms_of (map term_view l.fn.terms))
+    with (all_more (operands_plan l.operands)) (walked_terms (numbers l.fn.self) (state l.walk) (terms_of (map term_view (drop l.term-index l.terms))))
+    ≡ with (all_more (none_of l.fn.class)) (walked_terms (numbers l.fn.self) (state l.fn.walk) (terms_of (map term_view l.fn.terms)))
 
 abbrev pub invariant-arms-loop-arm : goal.invariant-arms-loop-arm
 invariant-arms-loop-arm l =
