@@ -6,9 +6,7 @@ ghost use Rattle.jt_cursor.specs.Reads.{Reads};
 ghost use Rattle.jt_expressions.specs.Nested.{nested};
 
 use crate::phrases::Phrases;
-use crate::readers::Readers;
 use jt_cursor::{Cursor, Fault};
-use jt_expressions::Rules;
 use jt_grammar::Level;
 use jt_syntax::{Expr, Stmt};
 use sqlite_items::{Boxed, Items};
@@ -28,18 +26,7 @@ fn read(
     if depth == 0 {
         return Err(Fault::Spent);
     }
-    let nested = Readers {
-        expression: read,
-        statement: read_step,
-    };
-    let depth = depth - 1;
-    let rules = Rules {
-        alloc,
-        turns,
-        depth,
-        nested,
-    };
-    Phrases { rules }.rule(tokens, level)
+    Phrases::new(alloc, turns, depth - 1, read, read_step).rule(tokens, level)
 }
 
 /// A statement with fewer than `depth` openers open.
@@ -55,18 +42,7 @@ fn read_step(
     if depth == 0 {
         return Err(Fault::Spent);
     }
-    let nested = Readers {
-        expression: read,
-        statement: read_step,
-    };
-    let depth = depth - 1;
-    let rules = Rules {
-        alloc,
-        turns,
-        depth,
-        nested,
-    };
-    Phrases { rules }.stepped(tokens)
+    Phrases::new(alloc, turns, depth - 1, read, read_step).stepped(tokens)
 }
 
 /// Any expression, with no more than `depth` openers open, and no list of more than `turns` parts.
@@ -78,17 +54,7 @@ pub fn whole(
 ) -> Result<Boxed<Expr>, Fault>
     ensures { Reads view (nested spec.whole turns depth tokens.old) result tokens.new }
 {
-    let nested = Readers {
-        expression: read,
-        statement: read_step,
-    };
-    let rules = Rules {
-        alloc,
-        turns,
-        depth,
-        nested,
-    };
-    Phrases { rules }.whole(tokens)
+    Phrases::new(alloc, turns, depth, read, read_step).whole(tokens)
 }
 
 /// A statement, with no more than `depth` openers open, and no list of more than `turns` parts.
@@ -100,17 +66,7 @@ pub fn statement(
 ) -> Result<Stmt, Fault>
     ensures { Reads stmt_view (nested spec.stepped turns depth tokens.old) result tokens.new }
 {
-    let nested = Readers {
-        expression: read,
-        statement: read_step,
-    };
-    let rules = Rules {
-        alloc,
-        turns,
-        depth,
-        nested,
-    };
-    Phrases { rules }.stepped(tokens)
+    Phrases::new(alloc, turns, depth, read, read_step).stepped(tokens)
 }
 
 /// The statements behind the head of a block, up to what ends them, with no more than `depth`
@@ -123,15 +79,5 @@ pub fn tail(
 ) -> Result<Items<Stmt>, Fault>
     ensures { Reads stmt_views (nested spec.tail turns depth tokens.old) result tokens.new }
 {
-    let nested = Readers {
-        expression: read,
-        statement: read_step,
-    };
-    let rules = Rules {
-        alloc,
-        turns,
-        depth,
-        nested,
-    };
-    Phrases { rules }.tail(tokens)
+    Phrases::new(alloc, turns, depth, read, read_step).tail(tokens)
 }

@@ -9,7 +9,7 @@ read-returns-then-depth-eq0 t c = let none : c.args.depth ≡ 0 = omega arith in
 
 pub read-returns : goal.read-returns
 unfolding read
-read-returns t c = rw (deeper (λ n. read c.args.turns n c.args.level c.args.tokens.now) c.args.depth (omega arith)) c.rule.ensures
+read-returns t c = rw (deeper (λ n. read c.args.turns n c.args.level c.args.tokens.now) c.args.depth (omega arith)) (rw c.new.ensures at c.rule.ensures)
 
 pub read_step-returns-then-depth-eq0 : goal.read_step-returns-then-depth-eq0
 unfolding read_step
@@ -17,4 +17,4 @@ read_step-returns-then-depth-eq0 t c = let none : c.args.depth ≡ 0 = omega ari
 
 pub read_step-returns : goal.read_step-returns
 unfolding read_step
-read_step-returns t c = rw (deeper (λ n. read_step c.args.turns n c.args.tokens.now) c.args.depth (omega arith)) c.stepped.ensures
+read_step-returns t c = rw (deeper (λ n. read_step c.args.turns n c.args.tokens.now) c.args.depth (omega arith)) (rw c.new.ensures at c.stepped.ensures)
