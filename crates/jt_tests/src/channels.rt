@@ -99,7 +99,7 @@ fn channel_row(
     alloc: Global,
     capacity: u32,
     calls: &[(Call, Ask)],
-) -> Result<(), OutOfMemory>
+) -> Result<(), Fail>
     requires { length calls.now < 100 }
 {
     let mut channel = sendable(Chan::new(alloc, capacity));
@@ -111,37 +111,18 @@ fn channel_row(
 }
 
 #[test]
-fn channels(rt: HostRuntime) -> Result<(), Fail> {
-    let alloc = rt.alloc();
-
-    // A put to an unbuffered channel alone never lands.
+fn a_put_to_an_unbuffered_channel_lands_with_its_take(rt: HostRuntime) -> Result<(), Fail> {
+    // A put alone never lands.
     channel_row(
         &rt,
-        alloc,
+        rt.alloc(),
         0,
         &[(Call::Offer(1), int(1)), (Call::Landed(1), Ask::NotYet)],
     )?;
-
-    // What is left in a buffer comes out after the close.
+    // One that was taken lands also where the channel is closed afterwards.
     channel_row(
         &rt,
-        alloc,
-        1,
-        &[
-            (Call::Put(5), ok()),
-            (Call::Put(6), Ask::NotYet),
-            (Call::Close, ok()),
-            (Call::Take, int(5)),
-            (Call::Take, closed()),
-            (Call::Next, no_item()),
-            (Call::Put(6), closed()),
-        ],
-    )?;
-
-    // A put lands with its take, also where the channel is closed afterwards.
-    channel_row(
-        &rt,
-        alloc,
+        rt.alloc(),
         0,
         &[
             (Call::Offer(7), int(1)),
@@ -151,12 +132,14 @@ fn channels(rt: HostRuntime) -> Result<(), Fail> {
             (Call::IsOpen, flag(false)),
             (Call::Landed(1), ok()),
         ],
-    )?;
+    )
+}
 
-    // A close withdraws offers.
+#[test]
+fn a_close_withdraws_offers(rt: HostRuntime) -> Result<(), Fail> {
     channel_row(
         &rt,
-        alloc,
+        rt.alloc(),
         0,
         &[
             (Call::Offer(1), int(1)),
@@ -169,12 +152,29 @@ fn channels(rt: HostRuntime) -> Result<(), Fail> {
             (Call::Next, no_item()),
             (Call::Offer(3), closed()),
         ],
-    )?;
+    )
+}
 
-    // A buffered channel is ready while an item is left, closed or not.
+#[test]
+fn what_is_left_in_a_buffer_comes_out_after_the_close(rt: HostRuntime) -> Result<(), Fail> {
     channel_row(
         &rt,
-        alloc,
+        rt.alloc(),
+        1,
+        &[
+            (Call::Put(5), ok()),
+            (Call::Put(6), Ask::NotYet),
+            (Call::Close, ok()),
+            (Call::Take, int(5)),
+            (Call::Take, closed()),
+            (Call::Next, no_item()),
+            (Call::Put(6), closed()),
+        ],
+    )?;
+    // It is ready while an item is left, closed or not.
+    channel_row(
+        &rt,
+        rt.alloc(),
         1,
         &[
             (Call::Put(1), ok()),
@@ -184,12 +184,14 @@ fn channels(rt: HostRuntime) -> Result<(), Fail> {
             (Call::Take, int(1)),
             (Call::IsReady, flag(false)),
         ],
-    )?;
+    )
+}
 
-    // First in, first out.
+#[test]
+fn a_buffer_gives_first_what_came_first(rt: HostRuntime) -> Result<(), Fail> {
     channel_row(
         &rt,
-        alloc,
+        rt.alloc(),
         2,
         &[
             (Call::Take, Ask::NotYet),
@@ -203,8 +205,7 @@ fn channels(rt: HostRuntime) -> Result<(), Fail> {
             (Call::Next, Ask::NotYet),
             (Call::IsOpen, flag(true)),
         ],
-    )?;
-    Ok(())
+    )
 }
 
 #[test]

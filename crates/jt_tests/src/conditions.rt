@@ -126,7 +126,7 @@ fn play(rt: &impl Abort, mut object: Object, steps: &[(u32, Call, Want)]) -> Res
 }
 
 #[test]
-fn tasks_events_and_semaphores_answer(rt: HostRuntime) -> Result<(), Fail> {
+fn a_task_ends_or_fails_once(rt: HostRuntime) -> Result<(), Fail> {
     // A task that ends with 9.
     play(
         &rt,
@@ -161,7 +161,11 @@ fn tasks_events_and_semaphores_answer(rt: HostRuntime) -> Result<(), Fail> {
             (0, Call::Wait, Want::Failed),
             (1, Call::Begin, Want::NotYet),
         ],
-    )?;
+    )
+}
+
+#[test]
+fn an_event_stays_set_until_its_reset_or_a_wait(rt: HostRuntime) -> Result<(), Fail> {
     // `e = Base.Event(true); notify(e); wait(e); wait(e)`: the second wait never ends.
     play(
         &rt,
@@ -185,7 +189,11 @@ fn tasks_events_and_semaphores_answer(rt: HostRuntime) -> Result<(), Fail> {
             (1, Call::EWait, Want::NotYet),
             (1, Call::Take, Want::NotYet),
         ],
-    )?;
+    )
+}
+
+#[test]
+fn a_semaphore_takes_back_no_more_than_it_gave(rt: HostRuntime) -> Result<(), Fail> {
     // `s = Base.Semaphore(1); Base.acquire(s); Base.release(s); Base.release(s)`
     play(
         &rt,
@@ -202,8 +210,7 @@ fn tasks_events_and_semaphores_answer(rt: HostRuntime) -> Result<(), Fail> {
 }
 
 #[test]
-fn locks_and_conditions_answer(rt: HostRuntime) -> Result<(), Fail> {
-    // A task takes a lock twice and has to give it back as often.
+fn a_lock_is_given_back_as_often_as_it_was_taken(rt: HostRuntime) -> Result<(), Fail> {
     play(
         &rt,
         Object::Lock(Lock::new()),
@@ -219,7 +226,11 @@ fn locks_and_conditions_answer(rt: HostRuntime) -> Result<(), Fail> {
             (1, Call::Lock, Want::Ok),
             (0, Call::CWait, Want::NotYet),
         ],
-    )?;
+    )
+}
+
+#[test]
+fn a_condition_is_waited_for_under_its_lock(rt: HostRuntime) -> Result<(), Fail> {
     // `c = Threads.Condition(); lock(c); println(notify(c)); unlock(c); unlock(c)`
     play(
         &rt,
@@ -251,8 +262,12 @@ fn locks_and_conditions_answer(rt: HostRuntime) -> Result<(), Fail> {
             (1, Call::Unlock, Want::Ok),
             (1, Call::Unlock, Want::NotLocked),
         ],
-    )?;
-    // Tasks 1, with two levels, and 2 and 3 wait; a notify wakes the first, and another the rest.
+    )
+}
+
+#[test]
+fn a_notify_wakes_the_first_and_another_the_rest(rt: HostRuntime) -> Result<(), Fail> {
+    // Tasks 1, with two levels, and 2 and 3 wait.
     play(
         &rt,
         Object::Condition(CondLock::new(rt.alloc())),

@@ -8,6 +8,7 @@ use jt_sleep_core::{
     heap_count, last_queue, no_run_loses_a_wake_up, own_queues_serve, worker_count, worker_line,
     worker_queues, workers_served,
 };
+use std::alloc::Global;
 use std::process::Abort;
 use std::test::Fail;
 
@@ -174,91 +175,83 @@ fn end_of(core: &Core) -> End
     (free, core.sleeping(1), core.token(1))
 }
 
-#[test]
-fn schedules_of_two_workers(rt: HostRuntime) -> Result<(), Fail> {
-    let none: [Row; 0] = [];
-    let schedules = [
-        (
-            "between checks",
-            none.as_slice(),
-            false,
-            WOKEN_BETWEEN_CHECKS.as_slice(),
-            ([true, false, true], false, true),
-        ),
-        (
-            "after the pass",
-            none.as_slice(),
-            false,
-            DECLARED_AFTER_THE_PASS.as_slice(),
-            QUIET,
-        ),
-        (
-            "at rest",
-            none.as_slice(),
-            true,
-            WOKEN_AT_REST.as_slice(),
-            QUIET,
-        ),
-        (
-            "two passes",
-            none.as_slice(),
-            true,
-            TWO_PASSES_WAKE_ONCE.as_slice(),
-            ([true, false, true], false, true),
-        ),
-        (
-            "retreated",
-            none.as_slice(),
-            false,
-            RETREATED_BEFORE_THE_WAKE.as_slice(),
-            QUIET,
-        ),
-        (
-            "stopped",
-            none.as_slice(),
-            false,
-            STOPPED_BEFORE_THE_CHECKS.as_slice(),
-            QUIET,
-        ),
-        (
-            "late token",
-            none.as_slice(),
-            true,
-            TOKEN_LATER_THAN_THE_WAKE.as_slice(),
-            QUIET,
-        ),
-        (
-            "old token",
-            OLD_TOKEN_LEFT.as_slice(),
-            true,
-            OLD_TOKEN_TAKEN.as_slice(),
-            QUIET,
-        ),
-        (
-            "refused",
-            none.as_slice(),
-            false,
-            REFUSED_AT_THE_OPENING.as_slice(),
-            QUIET,
-        ),
-        (
-            "own token",
-            none.as_slice(),
-            true,
-            OWN_TOKEN.as_slice(),
-            QUIET,
-        ),
-    ];
-    for (name, before, past, rows, end) in schedules {
-        let mut core = Core::new(rt.alloc(), TWO)?;
-        assert_eq!(rt; first_other(&mut core, before), None, "before {name}");
-        if past {
-            assert_eq!(rt; first_other(&mut core, &PAST), None, "past {name}");
-        }
-        assert_eq!(rt; first_other(&mut core, rows), None, "{name}");
-        assert_eq!(rt; end_of(&core), end, "end of {name}");
-    }
+/// Makes the steps, each of which answers as its row says, and looks for this end behind the last.
+fn follow(rt: &impl Abort, core: &mut Core, rows: &[Row], end: End)
+    requires { core.old.sizes ≡ TWO }
+{
+    assert_eq!(rt; first_other(core, rows), None);
+    assert_eq!(rt; end_of(core), end);
+}
+
+/// Follows these steps of two workers from the opening on.
+fn schedule(rt: &impl Abort, alloc: Global, rows: &[Row], end: End) -> Result<(), Fail> {
+    let mut core = Core::new(alloc, TWO)?;
+    follow(rt, &mut core, rows, end);
     Ok(())
+}
+
+/// Follows these steps from where worker 1 has found each of its queues empty.
+fn schedule_past(rt: &impl Abort, alloc: Global, rows: &[Row], end: End) -> Result<(), Fail> {
+    let mut core = Core::new(alloc, TWO)?;
+    assert_eq!(rt; first_other(&mut core, &PAST), None);
+    follow(rt, &mut core, rows, end);
+    Ok(())
+}
+
+#[test]
+fn a_worker_is_woken_between_its_checks(rt: HostRuntime) -> Result<(), Fail> {
+    let end = ([true, false, true], false, true);
+    schedule(&rt, rt.alloc(), &WOKEN_BETWEEN_CHECKS, end)
+}
+
+#[test]
+fn a_worker_that_declares_after_the_pass_finds_the_job(rt: HostRuntime) -> Result<(), Fail> {
+    schedule(&rt, rt.alloc(), &DECLARED_AFTER_THE_PASS, QUIET)
+}
+
+#[test]
+fn a_worker_is_woken_at_rest(rt: HostRuntime) -> Result<(), Fail> {
+    schedule_past(&rt, rt.alloc(), &WOKEN_AT_REST, QUIET)
+}
+
+#[test]
+fn two_passes_wake_a_worker_once(rt: HostRuntime) -> Result<(), Fail> {
+    let end = ([true, false, true], false, true);
+    schedule_past(&rt, rt.alloc(), &TWO_PASSES_WAKE_ONCE, end)
+}
+
+#[test]
+fn a_worker_that_retreated_is_not_woken(rt: HostRuntime) -> Result<(), Fail> {
+    schedule(&rt, rt.alloc(), &RETREATED_BEFORE_THE_WAKE, QUIET)
+}
+
+#[test]
+fn a_stop_before_the_checks_is_found(rt: HostRuntime) -> Result<(), Fail> {
+    schedule(&rt, rt.alloc(), &STOPPED_BEFORE_THE_CHECKS, QUIET)
+}
+
+#[test]
+fn a_token_may_come_later_than_the_wake(rt: HostRuntime) -> Result<(), Fail> {
+    schedule_past(&rt, rt.alloc(), &TOKEN_LATER_THAN_THE_WAKE, QUIET)
+}
+
+#[test]
+fn an_old_token_ends_the_next_rest(rt: HostRuntime) -> Result<(), Fail> {
+    let mut core = Core::new(rt.alloc(), TWO)?;
+    assert_eq!(rt; first_other(&mut core, &OLD_TOKEN_LEFT), None);
+    assert_eq!(rt; first_other(&mut core, &PAST), None);
+    follow(&rt, &mut core, &OLD_TOKEN_TAKEN, QUIET);
+    Ok(())
+}
+
+#[test]
+fn steps_out_of_turn_are_refused(rt: HostRuntime) -> Result<(), Fail> {
+    schedule(&rt, rt.alloc(), &REFUSED_AT_THE_OPENING, QUIET)
+}
+
+#[test]
+fn a_worker_may_post_its_own_token(rt: HostRuntime) -> Result<(), Fail> {
+    schedule_past(&rt, rt.alloc(), &OWN_TOKEN, QUIET)
 }
 
 /// How many numbers there are, the first and the last.
