@@ -140,6 +140,7 @@ impl<'p> Machine<'p> {
             }
             Advance::Spawns(op, start) => {
                 let child = child(setting, &job, &op, start)?;
+                let child = Boxed::new(setting.alloc, child)?;
                 self.serve(setting, job, op, Follows::Makes(child))
             }
             Advance::Over => unreachable!(),
@@ -196,7 +197,7 @@ impl<'p> Machine<'p> {
             }
             Follows::GoesOn => Ok(Turn::GoesOn(job)),
             Follows::Makes(child) => {
-                self.ready.push(Boxed::new(setting.alloc, child)?)?;
+                self.ready.push(child)?;
                 Ok(Turn::GoesOn(job))
             }
         }

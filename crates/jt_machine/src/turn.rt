@@ -6,6 +6,7 @@ ghost use Rattle.jt_machine.specs.Turns.{follows_of};
 use crate::run::End;
 use jt_base::{Op, OutOfMemory, Path};
 use jt_step::TaskRun;
+use sqlite_items::Boxed;
 use std::alloc::Global;
 
 /// What comes of one turn of a job.
@@ -31,7 +32,7 @@ pub(crate) enum Follows<'p> {
     /// The job goes on.
     GoesOn,
     /// The job goes on, and the task that it made is ready.
-    Makes(TaskRun<'p>),
+    Makes(Boxed<TaskRun<'p>>),
 }
 
 /// What follows the reply to an operation that makes no task.

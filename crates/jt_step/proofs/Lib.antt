@@ -2,6 +2,7 @@ pub mod Weights
 pub mod Resumes
 pub mod Plans
 pub mod Moves
+pub mod Known
 pub mod Loops
 pub mod Lines
 pub mod Utf8

@@ -13,4 +13,5 @@ pub mod Agrees
 pub mod Fine
 pub mod More
 pub mod Spawned
+pub mod Forms
 pub mod Laws

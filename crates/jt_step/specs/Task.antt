@@ -14,7 +14,7 @@ use Rattle.jt_step.specs.declared.frame.Loop.TheVariants as loop
 use Rattle.jt_step.specs.declared.mode.Mode.{Mode}
 use Rattle.jt_step.specs.declared.mode.Mode.TheVariants as mode
 use Rattle.jt_step.specs.declared.start.Start.{Start}
-use Rattle.jt_step.specs.declared.task.TaskRun.TheInside.{Inside}
+use Rattle.jt_step.specs.declared.task.TaskState.{TaskState}
 use Rattle.jt_step.specs.State.{State, renew, renew_with}
 use Rattle.jt_step.specs.Meaning.{task}
 use Rattle.jt_step.specs.Stack.{at, unused}
@@ -44,7 +44,7 @@ mode_tells (mode.Failing f) = Some (next.Needs (op.Fail f))
 mode_tells mode.Over = Some next.Over
 mode_tells _ = None
 
-abbrev pub seen : Inside → Task
+abbrev pub seen : TaskState → Task
 seen t = record {
   run = record { program = program_plan t.program.now; sizes = t.sizes; limits = t.limits };
   path = t.path;
@@ -57,7 +57,7 @@ seen t = record {
 }
 
 -- the machine is where the meaning is after the notes that it has had
-pub record Holds (t : Inside) : Type 0 where
+pub record Holds (t : TaskState) : Type 0 where
   pub same : t.failed ≡ false → (rs : List Reply) → at (program_plan t.program.now) t.machine t.mode (unused t.log.items t.used ++ rs) ≡ task (program_plan t.program.now) t.limits.turns t.path t.start (map note_reply t.log.items ++ rs)
   pub within : t.used ≤ length t.log.items
   pub few : t.failed ≡ false → t.machine.turns ≤ t.limits.turns

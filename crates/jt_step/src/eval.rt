@@ -11,8 +11,9 @@ use crate::frame::Frame;
 use crate::line::Line;
 use crate::machine::Machine;
 use crate::mode::Mode;
+use crate::small::{Cause, Form, SmallFault, SmallValue};
 use crate::value::{error_fault, literal_value};
-use jt_base::{Fault, OutOfMemory, Value};
+use jt_base::OutOfMemory;
 use jt_program::{Code, Program};
 use sqlite_items::{Items, at};
 use std::alloc::Global;
@@ -29,27 +30,48 @@ impl<'p> Machine<'p> {
     {
         match e {
             Code::Literal(literal) => Ok(Mode::Gave(literal_value(*literal))),
-            Code::Variable(slot) => Ok(known(self.variables.as_slice(), *slot)),
-            Code::Constant(number) => Ok(known(self.constants.as_slice(), *number)),
-            Code::Assign(slot, e) => Ok(self.begin_with(Frame::Assign(*slot), e.get())?),
-            Code::Define(number, e) => Ok(self.begin_with(Frame::Define(*number), e.get())?),
-            Code::Unary(operator, e) => Ok(self.begin_with(Frame::Unary(*operator), e.get())?),
-            Code::Operation(e, es) => Ok(self.begin_with(Frame::Operands(es.as_slice()), e.get())?),
-            Code::Comparison(e, es) => Ok(self.begin_with(
+            Code::Variable(slot) => Ok(known(alloc, self.variables.as_slice(), *slot)?),
+            Code::Constant(number) => Ok(known(alloc, self.constants.as_slice(), *number)?),
+            Code::Assign(slot, e) => Ok(self.begin_or_give(alloc, Frame::Assign(*slot), e.get())?),
+            Code::Define(number, e) => Ok(self.begin_or_give(
+                alloc,
+                Frame::Define(*number),
+                e.get(),
+            )?),
+            Code::Unary(operator, e) => Ok(self.begin_or_give(
+                alloc,
+                Frame::Unary(*operator),
+                e.get(),
+            )?),
+            Code::Operation(e, es) => Ok(self.begin_or_give(
+                alloc,
+                Frame::Operands(es.as_slice()),
+                e.get(),
+            )?),
+            Code::Comparison(e, es) => Ok(self.begin_or_give(
+                alloc,
                 Frame::Comparisons(es.as_slice()),
                 e.get(),
             )?),
-            Code::Connection(connective, e, es) => Ok(self.begin_with(
+            Code::Connection(connective, e, es) => Ok(self.begin_or_give(
+                alloc,
                 Frame::Connection(*connective, es.as_slice()),
                 e.get(),
             )?),
             Code::Branch(arms, otherwise) => Ok(self.next_arm(arms.as_slice(), otherwise.get())?),
-            Code::Block(es) => Ok(self.next_part(Value::Nothing, es.as_slice())?),
-            Code::While(first, count, condition, body) => Ok(self.begin_with(
+            Code::Block(es) => Ok(self.next_part(
+                SmallValue {
+                    form: Form::Nothing,
+                },
+                es.as_slice(),
+            )?),
+            Code::While(first, count, condition, body) => Ok(self.begin_or_give(
+                alloc,
                 Frame::Condition(*first, *count, condition.get(), body.get()),
                 condition.get(),
             )?),
-            Code::For(first, count, low, high, body) => Ok(self.begin_with(
+            Code::For(first, count, low, high, body) => Ok(self.begin_or_give(
+                alloc,
                 Frame::Low(*first, *count, high.get(), body.get()),
                 low.get(),
             )?),
@@ -63,7 +85,7 @@ impl<'p> Machine<'p> {
             Code::Error(text) => Ok(Mode::Faulted(error_fault(alloc, text.as_slice())?)),
             Code::Spawn(task) => Ok(self.fork(alloc, program, task)?),
             Code::Sync(e) => Ok(self.begin_sync(alloc, e.get())?),
-            Code::Return(e) => Ok(self.begin_with(Frame::Return, e.get())?),
+            Code::Return(e) => Ok(self.begin_or_give(alloc, Frame::Return, e.get())?),
             Code::Break => Ok(Mode::Broke),
             Code::Continue => Ok(Mode::Continued),
         }
@@ -80,14 +102,35 @@ impl<'p> Machine<'p> {
         self.frames.push(frame)?;
         Ok(Mode::Eval(e))
     }
+
+    /// Begins a part whose end this frame has. A value that is read at once is given to the frame.
+    fn begin_or_give(
+        &mut self,
+        alloc: Global,
+        frame: Frame<'p>,
+        e: &'p Code,
+    ) -> Result<Mode<'p>, OutOfMemory>
+        ensures { IfOk result (λ m. (program : ProgramPlan) → Does program self.old (λ (s : State). after program frame.entry (does program (plan_of e.entry.now) s)) (weight (plan_of e.entry.now) + frame_weight frame.entry + 1) self.new m) }
+    {
+        match self.read(alloc, e)? {
+            Some(v) => Ok(self.give_to(alloc, frame, v)?),
+            None => Ok(self.begin_with(frame, e)?),
+        }
+    }
 }
 
 /// What stands in this slot.
-fn known<'p>(slots: &[Option<Value>], slot: usize) -> Mode<'p>
-    ensures { result ≡ known_mode (slice_get slots.now slot) }
+fn known<'p>(
+    alloc: Global,
+    slots: &[Option<SmallValue>],
+    slot: usize,
+) -> Result<Mode<'p>, OutOfMemory>
+    ensures { IfOk result (λ m. m ≡ known_mode (slice_get slots.now slot)) }
 {
     match at(slots, slot) {
-        Some(Some(value)) => Mode::Gave(value.copy()),
-        _ => Mode::Faulted(Fault::Undefined),
+        Some(Some(value)) => Ok(Mode::Gave(value.copy(alloc)?)),
+        _ => Ok(Mode::Faulted(SmallFault {
+            cause: Cause::Undefined,
+        })),
     }
 }

@@ -9,9 +9,10 @@ ghost use Rattle.jt_step.specs.Moves.{Does, built_in_mode};
 use crate::machine::Machine;
 use crate::mode::Mode;
 use crate::row::valued;
+use crate::small::{Cause, Form, SmallFault, SmallValue};
 use crate::start::Start;
 use crate::value::apply;
-use jt_base::{Fault, How, Op, OutOfMemory, Path, Value};
+use jt_base::{How, Op, OutOfMemory, Path, Value};
 use jt_program::{BuiltIn, Fork, Program};
 use sqlite_items::{Boxed, Items, at};
 use std::alloc::Global;
@@ -27,19 +28,29 @@ pub(crate) fn waits<'p>(alloc: Global, op: Op) -> Result<Mode<'p>, OutOfMemory>
 pub(crate) fn call_built_in<'p>(
     alloc: Global,
     function: BuiltIn,
-    arguments: &[Value],
+    arguments: &[SmallValue],
 ) -> Result<Mode<'p>, OutOfMemory>
     ensures { IfOk result (λ m. m ≡ built_in_mode function arguments.now) }
 {
     match (function, arguments) {
-        (BuiltIn::Fetch, [Value::Task(path)]) => {
-            let mode = waits(alloc, Op::Fetch(path.copy()))?;
-            Ok(mode)
-        }
-        (BuiltIn::Wait, [Value::Task(path)]) => {
-            let mode = waits(alloc, Op::Wait(path.copy()))?;
-            Ok(mode)
-        }
+        (BuiltIn::Fetch, [task]) => match &task.form {
+            Form::Task(path) => {
+                let mode = waits(alloc, Op::Fetch(path.get().copy()))?;
+                Ok(mode)
+            }
+            _ => Ok(Mode::Faulted(SmallFault {
+                cause: Cause::Method,
+            })),
+        },
+        (BuiltIn::Wait, [task]) => match &task.form {
+            Form::Task(path) => {
+                let mode = waits(alloc, Op::Wait(path.get().copy()))?;
+                Ok(mode)
+            }
+            _ => Ok(Mode::Faulted(SmallFault {
+                cause: Cause::Method,
+            })),
+        },
         (BuiltIn::Yield, []) => {
             let mode = waits(alloc, Op::Yield)?;
             Ok(mode)
@@ -51,7 +62,7 @@ pub(crate) fn call_built_in<'p>(
 /// The values in these slots; nothing where one of them has none.
 fn values_taken(
     alloc: Global,
-    variables: &[Option<Value>],
+    variables: &[Option<SmallValue>],
     slots: &[usize],
 ) -> Result<Option<Items<Value>>, OutOfMemory>
     ensures { IfOk result (λ vs. vs ≡ meaning.values_taken [] variables.now slots.now) }
@@ -59,7 +70,7 @@ fn values_taken(
     let mut values = Items::new(alloc);
     for slot in slots {
         match at(variables, *slot) {
-            Some(Some(value)) => values.push(value.copy())?,
+            Some(Some(value)) => values.push(value.value())?,
             _ => return Ok(None),
         }
     }
@@ -69,14 +80,14 @@ fn values_taken(
 /// The values of all constants; nothing where one of them has none.
 fn values_known(
     alloc: Global,
-    constants: &[Option<Value>],
+    constants: &[Option<SmallValue>],
 ) -> Result<Option<Items<Value>>, OutOfMemory>
     ensures { IfOk result (λ vs. vs ≡ meaning.values_known [] constants.now) }
 {
     let mut values = Items::new(alloc);
     for constant in constants {
         match constant {
-            Some(value) => values.push(value.copy())?,
+            Some(value) => values.push(value.value())?,
             None => return Ok(None),
         }
     }
@@ -113,9 +124,13 @@ impl<'p> Machine<'p> {
         ensures { IfOk result (λ m. Does (program_plan program.now) self.old (meaning.fork (slice_get (program_plan program.now).tasks task.now.body) task.now.body task.now.captured task.now.is_awaited) 2 self.new m) }
     {
         match at(program.tasks.as_slice(), task.body as usize) {
-            None => Ok(Mode::Faulted(Fault::Method)),
+            None => Ok(Mode::Faulted(SmallFault {
+                cause: Cause::Method,
+            })),
             Some(_) => match self.path.child(self.spawned) {
-                Err(_) => Ok(Mode::Faulted(Fault::ForkTooDeep)),
+                Err(_) => Ok(Mode::Faulted(SmallFault {
+                    cause: Cause::ForkTooDeep,
+                })),
                 Ok(path) => {
                     let mode = self.fork_with(alloc, path, task)?;
                     Ok(mode)
@@ -130,7 +145,9 @@ impl<'p> Machine<'p> {
         ensures { IfOk result (λ m. (program : ProgramPlan) → Does program self.old (meaning.fork_with path task.now.is_awaited (meaning.child_start task.now.body self.old.stream (meaning.values_taken [] self.old.variables task.now.captured) (meaning.values_known [] self.old.constants))) 2 self.new m) }
     {
         match self.child_start(alloc, task)? {
-            None => Ok(Mode::Faulted(Fault::Undefined)),
+            None => Ok(Mode::Faulted(SmallFault {
+                cause: Cause::Undefined,
+            })),
             Some(start) => {
                 let op = Boxed::new(alloc, Op::Spawn(path.copy(), start.how))?;
                 let start = Boxed::new(alloc, start)?;

@@ -1,10 +1,11 @@
 //! What is left to do once a part has ended.
 
 use crate::line::Line;
-use jt_base::{Fault, Path, Value};
+use crate::small::{SmallFault, SmallValue};
+use jt_base::Path;
 use jt_program::{Arm, Callee, Code, Piece};
 use jt_syntax::{ArithmeticOperator, ComparisonOperator, Connective, UnaryOperator};
-use sqlite_items::Items;
+use sqlite_items::{Boxed, Items};
 
 /// A loop whose turns go on. Its own variables are in the slots from the first number on, as many as
 /// the second says.
@@ -30,9 +31,9 @@ pub enum Exit {
 pub struct Waits {
     pub paths: Items<Path>,
     pub next: usize,
-    pub fault: Option<Fault>,
+    pub fault: Option<SmallFault>,
     pub exit: Exit,
-    pub value: Value,
+    pub value: SmallValue,
 }
 
 /// What is left to do once a part has ended.
@@ -44,11 +45,11 @@ pub enum Frame<'p> {
     /// The operands behind the first one.
     Operands(&'p [(ArithmeticOperator, Code)]),
     /// An operator, the value so far, and the operands behind the one that is evaluated.
-    Operand(ArithmeticOperator, Value, &'p [(ArithmeticOperator, Code)]),
+    Operand(ArithmeticOperator, SmallValue, &'p [(ArithmeticOperator, Code)]),
     /// The comparisons behind the first operand.
     Comparisons(&'p [(ComparisonOperator, Code)]),
     /// A comparison, its first operand, and the comparisons behind it.
-    Compared(ComparisonOperator, Value, &'p [(ComparisonOperator, Code)]),
+    Compared(ComparisonOperator, SmallValue, &'p [(ComparisonOperator, Code)]),
     /// The operands that are left.
     Connection(Connective, &'p [Code]),
     /// The body of the arm whose condition is evaluated, the other arms, and what is done where none
@@ -61,18 +62,18 @@ pub enum Frame<'p> {
     /// A loop over numbers whose lower bound is evaluated: the upper one, and its body.
     Low(usize, usize, &'p Code, &'p Code),
     /// A loop over numbers whose upper bound is evaluated: the lower one, and its body.
-    High(usize, usize, Value, &'p Code),
+    High(usize, usize, SmallValue, &'p Code),
     /// A loop whose body runs.
     Loop(Loop<'p>),
     /// The arguments that are left, and the values of those before the one that is evaluated.
-    Arguments(Callee, &'p [Code], Items<Value>),
+    Arguments(Callee, &'p [Code], Items<SmallValue>),
     /// The items that are left, and the text of those before the one that is evaluated.
     Pieces(&'p [Piece], Line),
     /// A call: the caller's variables, and how many calls were open.
-    Call(Items<Option<Value>>, u32),
+    Call(Items<Option<SmallValue>>, u32),
     /// The part of an `@sync`: the tasks for which the one round it waits.
     Sync(Items<Path>),
     /// A wait at the end of an `@sync`, and what follows it.
-    Waiting(Waits),
+    Waiting(Boxed<Waits>),
     Return,
 }

@@ -12,16 +12,17 @@ use crate::frame::{Exit, Frame, Loop};
 use crate::machine::Machine;
 use crate::mode::Mode;
 use crate::row::valued;
+use crate::small::{Cause, Form, SmallFault, SmallValue};
 use crate::value::{apply_unary, compare, operate};
 use crate::variables::assign;
-use jt_base::{Fault, OutOfMemory, Value};
+use jt_base::OutOfMemory;
 use jt_program::{Arm, Code};
 use jt_syntax::{ArithmeticOperator, ComparisonOperator};
 use std::alloc::Global;
 
 impl<'p> Machine<'p> {
     /// A part gave a value.
-    pub(crate) fn give(&mut self, alloc: Global, v: Value) -> Result<Mode<'p>, OutOfMemory>
+    pub(crate) fn give(&mut self, alloc: Global, v: SmallValue) -> Result<Mode<'p>, OutOfMemory>
         ensures { IfOk result (λ m. (program : ProgramPlan) → Follows program self.old (Mode.Gave v) self.new m) }
     {
         match self.frames.pop() {
@@ -31,28 +32,28 @@ impl<'p> Machine<'p> {
     }
 
     /// A part gave a value to this frame.
-    fn give_to(
+    pub(crate) fn give_to(
         &mut self,
         alloc: Global,
         frame: Frame<'p>,
-        v: Value,
+        v: SmallValue,
     ) -> Result<Mode<'p>, OutOfMemory>
         ensures { IfOk result (λ m. (program : ProgramPlan) → Hands program self.old frame.entry (Gave v) self.new m) }
     {
         match frame {
             Frame::Assign(slot) => {
-                assign(&mut self.variables, slot, v.copy());
+                assign(&mut self.variables, slot, v.copy(alloc)?);
                 Ok(Mode::Gave(v))
             }
             Frame::Define(number) => {
-                assign(&mut self.constants, number, v.copy());
+                assign(&mut self.constants, number, v.copy(alloc)?);
                 Ok(Mode::Gave(v))
             }
             Frame::Unary(operator) => Ok(valued(apply_unary(operator, &v))),
-            Frame::Operands(es) => Ok(self.next_operand(v, es)?),
-            Frame::Operand(operator, w, es) => Ok(self.give_operand(operator, w, v, es)?),
-            Frame::Comparisons(es) => Ok(self.next_comparison(v, es)?),
-            Frame::Compared(operator, w, es) => Ok(self.give_compared(operator, w, v, es)?),
+            Frame::Operands(es) => Ok(self.next_operand(alloc, v, es)?),
+            Frame::Operand(operator, w, es) => Ok(self.give_operand(alloc, operator, w, v, es)?),
+            Frame::Comparisons(es) => Ok(self.next_comparison(alloc, v, es)?),
+            Frame::Compared(operator, w, es) => Ok(self.give_compared(alloc, operator, w, v, es)?),
             Frame::Connection(connective, es) => Ok(self.next_connected(connective, v, es)?),
             Frame::Choice(e, arms, otherwise) => Ok(self.give_condition(v, e, arms, otherwise)?),
             Frame::Rest(es) => Ok(self.next_part(v, es)?),
@@ -80,7 +81,7 @@ impl<'p> Machine<'p> {
                 Ok(Mode::Gave(v))
             }
             Frame::Sync(outer) => Ok(self.end_sync(alloc, outer, Exit::Value, v)?),
-            Frame::Waiting(waits) => Ok(self.next_wait(alloc, waits)?),
+            Frame::Waiting(waits) => Ok(self.next_wait(alloc, waits.into_inner())?),
             Frame::Return => Ok(Mode::Returned(v)),
         }
     }
@@ -88,15 +89,16 @@ impl<'p> Machine<'p> {
     /// Both operands of an operator have their values.
     fn give_operand(
         &mut self,
+        alloc: Global,
         operator: ArithmeticOperator,
-        v: Value,
-        w: Value,
+        v: SmallValue,
+        w: SmallValue,
         es: &'p [(ArithmeticOperator, Code)],
     ) -> Result<Mode<'p>, OutOfMemory>
         ensures { IfOk result (λ m. (program : ProgramPlan) → Hands program self.old (Frame.Operand operator v es.entry) (Gave w) self.new m) }
     {
         match operate(operator, &v, &w) {
-            Ok(value) => Ok(self.next_operand(value, es)?),
+            Ok(value) => Ok(self.next_operand(alloc, value, es)?),
             Err(fault) => Ok(Mode::Faulted(fault)),
         }
     }
@@ -104,34 +106,46 @@ impl<'p> Machine<'p> {
     /// Both operands of a comparison have their values.
     fn give_compared(
         &mut self,
+        alloc: Global,
         operator: ComparisonOperator,
-        v: Value,
-        w: Value,
+        v: SmallValue,
+        w: SmallValue,
         es: &'p [(ComparisonOperator, Code)],
     ) -> Result<Mode<'p>, OutOfMemory>
         ensures { IfOk result (λ m. (program : ProgramPlan) → Hands program self.old (Frame.Compared operator v es.entry) (Gave w) self.new m) }
     {
         match compare(operator, &v, &w) {
-            Some(true) => Ok(self.next_comparison(w, es)?),
-            Some(false) => Ok(Mode::Gave(Value::Flag(false))),
-            None => Ok(Mode::Faulted(Fault::Method)),
+            Some(true) => Ok(self.next_comparison(alloc, w, es)?),
+            Some(false) => Ok(Mode::Gave(SmallValue {
+                form: Form::Flag(false),
+            })),
+            None => Ok(Mode::Faulted(SmallFault {
+                cause: Cause::Method,
+            })),
         }
     }
 
     /// The condition of an arm has its value.
     fn give_condition(
         &mut self,
-        v: Value,
+        v: SmallValue,
         e: &'p Code,
         arms: &'p [Arm],
         otherwise: &'p Code,
     ) -> Result<Mode<'p>, OutOfMemory>
         ensures { IfOk result (λ m. (program : ProgramPlan) → Hands program self.old (Frame.Choice e.entry arms.entry otherwise.entry) (Gave v) self.new m) }
     {
-        match v {
-            Value::Flag(true) => Ok(Mode::Eval(e)),
-            Value::Flag(false) => Ok(self.next_arm(arms, otherwise)?),
-            _ => Ok(Mode::Faulted(Fault::Method)),
+        match v.form {
+            Form::Flag(holds) => {
+                if holds {
+                    Ok(Mode::Eval(e))
+                } else {
+                    Ok(self.next_arm(arms, otherwise)?)
+                }
+            }
+            _ => Ok(Mode::Faulted(SmallFault {
+                cause: Cause::Method,
+            })),
         }
     }
 
@@ -155,13 +169,17 @@ impl<'p> Machine<'p> {
 }
 
 /// Before a turn of a loop, or at its end, by its condition.
-fn turn_of<'p>(v: Value, l: Loop<'p>) -> Mode<'p>
+fn turn_of<'p>(v: SmallValue, l: Loop<'p>) -> Mode<'p>
     ensures { result ≡ turn_mode v l.entry }
 {
-    match v {
-        Value::Flag(true) => Mode::Again(l),
-        Value::Flag(false) => Mode::Gave(Value::Nothing),
-        _ => Mode::Faulted(Fault::Method),
+    match v.form {
+        Form::Flag(true) => Mode::Again(l),
+        Form::Flag(false) => Mode::Gave(SmallValue {
+            form: Form::Nothing,
+        }),
+        _ => Mode::Faulted(SmallFault {
+            cause: Cause::Method,
+        }),
     }
 }
 
@@ -170,20 +188,24 @@ fn turns_between<'p>(
     first: usize,
     count: usize,
     body: &'p Code,
-    low: Value,
-    high: Value,
+    low: SmallValue,
+    high: SmallValue,
 ) -> Mode<'p>
     ensures { result ≡ bounds_mode first count body.entry low high }
 {
-    match (low, high) {
-        (Value::Int(low), Value::Int(high)) => {
-            if low <= high {
-                Mode::Again(Loop::Range(first, count, body, low, high))
+    match (&low.form, &high.form) {
+        (Form::Int(low), Form::Int(high)) => {
+            if *low <= *high {
+                Mode::Again(Loop::Range(first, count, body, *low, *high))
             } else {
-                Mode::Gave(Value::Nothing)
+                Mode::Gave(SmallValue {
+                    form: Form::Nothing,
+                })
             }
         }
-        _ => Mode::Faulted(Fault::Method),
+        _ => Mode::Faulted(SmallFault {
+            cause: Cause::Method,
+        }),
     }
 }
 
@@ -195,6 +217,8 @@ fn next_number<'p>(first: usize, count: usize, body: &'p Code, i: i64, last: i64
     if i < last {
         Mode::Again(Loop::Range(first, count, body, i + 1, last))
     } else {
-        Mode::Gave(Value::Nothing)
+        Mode::Gave(SmallValue {
+            form: Form::Nothing,
+        })
     }
 }

@@ -3,8 +3,9 @@
 ghost use Rattle.std.specs.Prelude.{◌≡◌, [], Some, OnOk};
 ghost use Rattle.jt_step.specs.Values as spec;
 
+use crate::small::{Form, SmallValue};
 use itoa::Buffer;
-use jt_base::{OutOfMemory, Text, Value};
+use jt_base::{OutOfMemory, Text};
 use std::alloc::Global;
 use std::marker::Model;
 
@@ -36,17 +37,17 @@ impl Line {
 
     /// Appends what is printed for a value. The handle of a task or of an object isn't printed: the
     /// line has no text then.
-    pub(crate) fn push_value(&mut self, value: &Value) -> Result<(), OutOfMemory>
+    pub(crate) fn push_value(&mut self, value: &SmallValue) -> Result<(), OutOfMemory>
         ensures { OnOk result (self.new ≡ spec.shown_with self.old (spec.shown value.now)) }
     {
-        match value {
-            Value::Int(number) => {
+        match &value.form {
+            Form::Int(number) => {
                 let mut digits = Buffer::new();
                 self.push_str(digits.format(*number))
             }
-            Value::Flag(flag) => self.push_str(if *flag { "true" } else { "false" }),
-            Value::Nothing => self.push_str("nothing"),
-            Value::Task(_) | Value::Object(_, _) => {
+            Form::Flag(flag) => self.push_str(if *flag { "true" } else { "false" }),
+            Form::Nothing => self.push_str("nothing"),
+            Form::Task(_) | Form::Object(_, _) => {
                 self.shows = false;
                 Ok(())
             }

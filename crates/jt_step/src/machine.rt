@@ -7,9 +7,10 @@ ghost use Rattle.jt_step.specs.Meaning.{beginning};
 ghost use Rattle.jt_step.specs.Stack.{state_of};
 
 use crate::frame::Frame;
+use crate::small::SmallValue;
 use crate::start::Start;
 use crate::variables::variables_of;
-use jt_base::{OutOfMemory, Path, Value};
+use jt_base::{OutOfMemory, Path};
 use jt_program::Program;
 use sqlite_items::Items;
 use std::alloc::Global;
@@ -21,8 +22,8 @@ use std::alloc::Global;
 pub struct Machine<'p> {
     pub frames: Vec<Frame<'p>>,
     pub path: Path,
-    pub variables: Items<Option<Value>>,
-    pub constants: Items<Option<Value>>,
+    pub variables: Items<Option<SmallValue>>,
+    pub constants: Items<Option<SmallValue>>,
     pub turns: u64,
     pub open_calls: u32,
     pub spawned: u32,

@@ -5,9 +5,10 @@ ghost use Rattle.jt_step.specs.Task.{mode_tells};
 ghost use Rattle.jt_step.specs.Tasks.{told};
 
 use crate::frame::Loop;
+use crate::small::{SmallFault, SmallValue};
 use crate::start::Start;
 use crate::task::Advance;
-use jt_base::{Fault, Op, OutOfMemory, Value};
+use jt_base::{Op, OutOfMemory};
 use jt_program::Code;
 use sqlite_items::{Boxed, Items};
 use std::alloc::Global;
@@ -18,19 +19,19 @@ pub enum Mode<'p> {
     /// Before the beginning of this body.
     Begins(&'p Code),
     Eval(&'p Code),
-    Gave(Value),
-    Returned(Value),
+    Gave(SmallValue),
+    Returned(SmallValue),
     Broke,
     Continued,
-    Faulted(Fault),
+    Faulted(SmallFault),
     /// Before a call of the function of this number.
-    Enter(usize, Items<Value>),
+    Enter(usize, Items<SmallValue>),
     /// Before a turn of a loop.
     Again(Loop<'p>),
     /// An operation waits for its reply; a spawn with the child's start.
     Waits(Boxed<Op>, Option<Boxed<Start>>),
-    Ending(Value),
-    Failing(Fault),
+    Ending(SmallValue),
+    Failing(SmallFault),
     Over,
     /// A reply was none that its operation can have.
     Unfit,
@@ -48,8 +49,8 @@ impl Mode<'_> {
                 op.get().copy(alloc)?,
                 start.get().copy(alloc)?,
             )),
-            Mode::Ending(v) => Ok(Advance::Needs(Op::End(v.copy()))),
-            Mode::Failing(fault) => Ok(Advance::Needs(Op::Fail(fault.copy(alloc)?))),
+            Mode::Ending(v) => Ok(Advance::Needs(Op::End(v.value()))),
+            Mode::Failing(fault) => Ok(Advance::Needs(Op::Fail(fault.fault(alloc)?))),
             Mode::Over => Ok(Advance::Over),
             _ => Ok(Advance::More),
         }

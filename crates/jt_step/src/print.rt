@@ -12,7 +12,8 @@ use crate::frame::Frame;
 use crate::line::Line;
 use crate::machine::Machine;
 use crate::mode::Mode;
-use jt_base::{Fault, Op, OutOfMemory};
+use crate::small::{Cause, SmallFault};
+use jt_base::{Op, OutOfMemory};
 use jt_program::{Code, Piece};
 use std::alloc::Global;
 
@@ -38,7 +39,9 @@ impl<'p> Machine<'p> {
                     let mode = waits(alloc, Op::Print(text))?;
                     Ok(mode)
                 }
-                None => Ok(Mode::Faulted(Fault::Method)),
+                None => Ok(Mode::Faulted(SmallFault {
+                    cause: Cause::Method,
+                })),
             },
         }
     }

@@ -5,13 +5,16 @@ ghost use Rattle.jt_program.specs.Plan.{ProgramPlan};
 ghost use Rattle.jt_program.specs.View.{plan_of, plans};
 ghost use Rattle.jt_step.specs.Meaning.{go, run_all, run_arguments, run_choices, run_comparisons, run_connection, run_operands};
 ghost use Rattle.jt_step.specs.Moves.{Does, asking, valued_mode};
+ghost use Rattle.jt_step.specs.State.{State, bind};
 ghost use Rattle.jt_step.specs.Stack.{choices_in, choices_weight, comparisons_in, comparisons_weight, does, operands_in, operands_weight, plans_weight, weight};
 
 use crate::fork::call_built_in;
 use crate::frame::Frame;
 use crate::machine::Machine;
 use crate::mode::Mode;
-use jt_base::{Fault, OutOfMemory, Value};
+use crate::small::{Cause, Form, SmallFault, SmallValue};
+use crate::value::{compare, operate};
+use jt_base::OutOfMemory;
 use jt_program::{Arm, Callee, Code};
 use jt_syntax::{ArithmeticOperator, ComparisonOperator, Connective};
 use sqlite_items::Items;
@@ -19,32 +22,57 @@ use std::alloc::Global;
 
 impl<'p> Machine<'p> {
     /// Goes on with the parts of a block that are left; `v` is the value of the one before.
-    pub(crate) fn next_part(&mut self, v: Value, es: &'p [Code]) -> Result<Mode<'p>, OutOfMemory>
+    pub(crate) fn next_part(
+        &mut self,
+        v: SmallValue,
+        es: &'p [Code],
+    ) -> Result<Mode<'p>, OutOfMemory>
         ensures { IfOk result (λ m. (program : ProgramPlan) → Does program self.old (run_all program (go program) v (plans es.now)) (plans_weight (plans es.now) + 1) self.new m) }
     {
         match first_of(es) {
             None => Ok(Mode::Gave(v)),
-            Some((e, rest)) => {
-                self.frames.push(Frame::Rest(rest))?;
-                Ok(Mode::Eval(e))
-            }
+            Some((e, rest)) => Ok(self.begin_part(e, rest)?),
         }
+    }
+
+    /// Begins a part of a block, behind which the others stand.
+    fn begin_part(&mut self, e: &'p Code, rest: &'p [Code]) -> Result<Mode<'p>, OutOfMemory>
+        ensures { IfOk result (λ m. (program : ProgramPlan) → Does program self.old (λ (s : State). bind (does program (plan_of e.entry.now) s) (λ v. run_all program (go program) v (plans rest.now))) (weight (plan_of e.entry.now) + plans_weight (plans rest.now) + 1) self.new m) }
+    {
+        if rest.is_empty() {
+            return Ok(Mode::Eval(e));
+        }
+        Ok(self.begin_with(Frame::Rest(rest), e)?)
     }
 
     /// Goes on with the operands that are left; `v` is the value so far.
     pub(crate) fn next_operand(
         &mut self,
-        v: Value,
+        alloc: Global,
+        v: SmallValue,
         es: &'p [(ArithmeticOperator, Code)],
     ) -> Result<Mode<'p>, OutOfMemory>
         ensures { IfOk result (λ m. (program : ProgramPlan) → Does program self.old (run_operands program (go program) v (operands_in es.now)) (operands_weight (operands_in es.now) + 1) self.new m) }
     {
-        match first_of(es) {
-            None => Ok(Mode::Gave(v)),
-            Some((first, rest)) => {
-                let (operator, e) = first;
-                self.frames.push(Frame::Operand(*operator, v, rest))?;
-                Ok(Mode::Eval(e))
+        let mut v = v;
+        let mut es = es;
+        'operands: loop {
+            match first_of(es) {
+                None => return Ok(Mode::Gave(v)),
+                Some((first, rest)) => {
+                    let (operator, e) = first;
+                    match self.read(alloc, e)? {
+                        None => {
+                            self.frames.push(Frame::Operand(*operator, v, rest))?;
+                            return Ok(Mode::Eval(e));
+                        }
+                        Some(w) => match operate(*operator, &v, &w) {
+                            Err(fault) => return Ok(Mode::Faulted(fault)),
+                            Ok(value) => v = value,
+                        },
+                    }
+                    es = rest;
+                }
             }
         }
     }
@@ -52,17 +80,38 @@ impl<'p> Machine<'p> {
     /// Goes on with the comparisons that are left; `v` is the operand before them.
     pub(crate) fn next_comparison(
         &mut self,
-        v: Value,
+        alloc: Global,
+        v: SmallValue,
         es: &'p [(ComparisonOperator, Code)],
     ) -> Result<Mode<'p>, OutOfMemory>
         ensures { IfOk result (λ m. (program : ProgramPlan) → Does program self.old (run_comparisons program (go program) v (comparisons_in es.now)) (comparisons_weight (comparisons_in es.now) + 1) self.new m) }
     {
-        match first_of(es) {
-            None => Ok(Mode::Gave(Value::Flag(true))),
-            Some((first, rest)) => {
-                let (operator, e) = first;
-                self.frames.push(Frame::Compared(*operator, v, rest))?;
-                Ok(Mode::Eval(e))
+        let mut v = v;
+        let mut es = es;
+        'comparisons: loop {
+            match first_of(es) {
+                None => return Ok(Mode::Gave(SmallValue {
+                    form: Form::Flag(true),
+                })),
+                Some((first, rest)) => {
+                    let (operator, e) = first;
+                    match self.read(alloc, e)? {
+                        None => {
+                            self.frames.push(Frame::Compared(*operator, v, rest))?;
+                            return Ok(Mode::Eval(e));
+                        }
+                        Some(w) => match compare(*operator, &v, &w) {
+                            None => return Ok(Mode::Faulted(SmallFault {
+                                cause: Cause::Method,
+                            })),
+                            Some(false) => return Ok(Mode::Gave(SmallValue {
+                                form: Form::Flag(false),
+                            })),
+                            Some(true) => v = w,
+                        },
+                    }
+                    es = rest;
+                }
             }
         }
     }
@@ -71,23 +120,27 @@ impl<'p> Machine<'p> {
     pub(crate) fn next_connected(
         &mut self,
         connective: Connective,
-        v: Value,
+        v: SmallValue,
         es: &'p [Code],
     ) -> Result<Mode<'p>, OutOfMemory>
         ensures { IfOk result (λ m. (program : ProgramPlan) → Does program self.old (run_connection program (go program) connective v (plans es.now)) (plans_weight (plans es.now) + 1) self.new m) }
     {
         match first_of(es) {
             None => Ok(Mode::Gave(v)),
-            Some((e, rest)) => match v {
-                Value::Flag(flag) => {
+            Some((e, rest)) => match v.form {
+                Form::Flag(flag) => {
                     if flag == asking(connective) {
                         self.frames.push(Frame::Connection(connective, rest))?;
                         Ok(Mode::Eval(e))
                     } else {
-                        Ok(Mode::Gave(Value::Flag(flag)))
+                        Ok(Mode::Gave(SmallValue {
+                            form: Form::Flag(flag),
+                        }))
                     }
                 }
-                _ => Ok(Mode::Faulted(Fault::Method)),
+                _ => Ok(Mode::Faulted(SmallFault {
+                    cause: Cause::Method,
+                })),
             },
         }
     }
@@ -114,19 +167,31 @@ impl<'p> Machine<'p> {
         &mut self,
         alloc: Global,
         callee: Callee,
-        vs: Items<Value>,
+        vs: Items<SmallValue>,
         es: &'p [Code],
     ) -> Result<Mode<'p>, OutOfMemory>
         ensures { IfOk result (λ m. (program : ProgramPlan) → Does program self.old (run_arguments program (go program) callee vs (plans es.now)) (plans_weight (plans es.now) + 1) self.new m) }
     {
-        match first_of(es) {
-            None => match callee {
-                Callee::Function(number) => Ok(Mode::Enter(number, vs)),
-                Callee::BuiltIn(function) => Ok(call_built_in(alloc, function, vs.as_slice())?),
-            },
-            Some((e, rest)) => {
-                self.frames.push(Frame::Arguments(callee, rest, vs))?;
-                Ok(Mode::Eval(e))
+        let mut vs = vs;
+        let mut es = es;
+        'arguments: loop {
+            match first_of(es) {
+                None => match callee {
+                    Callee::Function(number) => return Ok(Mode::Enter(number, vs)),
+                    Callee::BuiltIn(function) => {
+                        return Ok(call_built_in(alloc, function, vs.as_slice())?);
+                    }
+                },
+                Some((e, rest)) => {
+                    match self.read(alloc, e)? {
+                        None => {
+                            self.frames.push(Frame::Arguments(callee, rest, vs))?;
+                            return Ok(Mode::Eval(e));
+                        }
+                        Some(v) => vs.push(v)?,
+                    }
+                    es = rest;
+                }
             }
         }
     }
@@ -143,7 +208,7 @@ fn asking(connective: Connective) -> bool
 }
 
 /// A value, or a fault.
-pub(crate) fn valued<'p>(outcome: Result<Value, Fault>) -> Mode<'p>
+pub(crate) fn valued<'p>(outcome: Result<SmallValue, SmallFault>) -> Mode<'p>
     ensures { result ≡ valued_mode outcome }
 {
     match outcome {

@@ -8,7 +8,8 @@ ghost use Rattle.jt_step.specs.Stack.{Runs, waits, taken, over_by, given_mode};
 
 use crate::machine::Machine;
 use crate::mode::Mode;
-use jt_base::{Fault, Note, Op, OutOfMemory, Reply, Value};
+use crate::small::{Form, SmallFault, SmallValue};
+use jt_base::{Note, Op, OutOfMemory, Reply};
 use jt_program::Program;
 use std::alloc::Global;
 
@@ -42,7 +43,7 @@ impl<'p> Machine<'p> {
                 if used == log.len() || !waits(&mode) {
                     return Ok((mode, used));
                 }
-                mode = answer(mode, &log[used].reply);
+                mode = answer(alloc, mode, &log[used].reply)?;
                 used += 1;
             }
         }
@@ -63,49 +64,55 @@ fn waits(mode: &Mode) -> bool
 }
 
 /// Gives a reply to the operation that waits.
-fn answer<'p>(mode: Mode<'p>, reply: &Reply) -> Mode<'p>
+fn answer<'p>(alloc: Global, mode: Mode<'p>, reply: &Reply) -> Result<Mode<'p>, OutOfMemory>
     requires { waits mode ≡ true }
-    ensures { result ≡ taken mode.entry reply.now }
+    ensures { IfOk result (λ m. m ≡ taken mode.entry reply.now) }
 {
     match mode {
         Mode::Begins(e) => match reply {
-            Reply::Ok => Mode::Eval(e),
-            _ => Mode::Unfit,
+            Reply::Ok => Ok(Mode::Eval(e)),
+            _ => Ok(Mode::Unfit),
         },
-        Mode::Waits(op, _start) => given(op.get(), reply),
-        Mode::Ending(_v) => over(reply),
-        Mode::Failing(_fault) => over(reply),
+        Mode::Waits(op, _start) => given(alloc, op.get(), reply),
+        Mode::Ending(_v) => Ok(over(reply)),
+        Mode::Failing(_fault) => Ok(over(reply)),
         _ => unreachable!(),
     }
 }
 
 /// What an operation gives by its reply.
-fn given<'p>(op: &Op, reply: &Reply) -> Mode<'p>
-    ensures { result ≡ given_mode (given op.now reply.now) }
+fn given<'p>(alloc: Global, op: &Op, reply: &Reply) -> Result<Mode<'p>, OutOfMemory>
+    ensures { IfOk result (λ m. m ≡ given_mode (given op.now reply.now)) }
 {
     match reply {
-        Reply::Ok => given_ok(op),
+        Reply::Ok => given_ok(alloc, op),
         Reply::Val(value) => match op {
-            Op::Fetch(_) => Mode::Gave(value.copy()),
-            _ => Mode::Unfit,
+            Op::Fetch(_) => Ok(Mode::Gave(SmallValue::of(alloc, value)?)),
+            _ => Ok(Mode::Unfit),
         },
         Reply::Failed => match op {
-            Op::Fetch(path) | Op::Wait(path) => Mode::Faulted(Fault::TaskFailed(path.copy())),
-            _ => Mode::Unfit,
+            Op::Fetch(path) | Op::Wait(path) => {
+                Ok(Mode::Faulted(SmallFault::task_failed(alloc, path)?))
+            }
+            _ => Ok(Mode::Unfit),
         },
-        _ => Mode::Unfit,
+        _ => Ok(Mode::Unfit),
     }
 }
 
 /// What an operation gives that is done.
-fn given_ok<'p>(op: &Op) -> Mode<'p>
-    ensures { result ≡ given_mode (given op.now reply.Ok) }
+fn given_ok<'p>(alloc: Global, op: &Op) -> Result<Mode<'p>, OutOfMemory>
+    ensures { IfOk result (λ m. m ≡ given_mode (given op.now reply.Ok)) }
 {
     match op {
-        Op::Begin | Op::End(_) | Op::Fail(_) => Mode::Gave(Value::Nothing),
-        Op::Print(_) | Op::Wait(_) | Op::Yield => Mode::Gave(Value::Nothing),
-        Op::Spawn(path, _) => Mode::Gave(Value::Task(path.copy())),
-        _ => Mode::Unfit,
+        Op::Begin | Op::End(_) | Op::Fail(_) => Ok(Mode::Gave(SmallValue {
+            form: Form::Nothing,
+        })),
+        Op::Print(_) | Op::Wait(_) | Op::Yield => Ok(Mode::Gave(SmallValue {
+            form: Form::Nothing,
+        })),
+        Op::Spawn(path, _) => Ok(Mode::Gave(SmallValue::task(alloc, path)?)),
+        _ => Ok(Mode::Unfit),
     }
 }
 

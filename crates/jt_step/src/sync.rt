@@ -11,15 +11,16 @@ ghost use Rattle.jt_step.specs.State.{State};
 use crate::frame::{Exit, Frame, Waits};
 use crate::machine::Machine;
 use crate::mode::Mode;
-use jt_base::{Fault, Op, OutOfMemory, Path, Value};
+use crate::small::{SmallFault, SmallValue};
+use jt_base::{Op, OutOfMemory, Path};
 use jt_program::Code;
-use sqlite_items::{Items, at};
+use sqlite_items::{Boxed, Items, at};
 use std::alloc::Global;
 use std::mem::replace;
 
 impl Waits {
     /// The same waits, of which one has failed: the first fault counts.
-    pub(crate) fn failed(self, fault: Fault) -> Waits
+    pub(crate) fn failed(self, fault: SmallFault) -> Waits
         ensures { result ≡ record self { fault = first_fault self.fault fault } }
     {
         Waits {
@@ -33,7 +34,7 @@ impl Waits {
 }
 
 /// The first of two faults, where there is one before.
-fn earlier(first: Option<Fault>, fault: Fault) -> Fault
+fn earlier(first: Option<SmallFault>, fault: SmallFault) -> SmallFault
     ensures { Some result ≡ first_fault first fault }
 {
     match first {
@@ -43,7 +44,7 @@ fn earlier(first: Option<Fault>, fault: Fault) -> Fault
 }
 
 /// How the part of an `@sync` ends once its tasks were waited for.
-fn left<'p>(exit: Exit, value: Value, fault: Option<Fault>) -> Mode<'p>
+fn left<'p>(exit: Exit, value: SmallValue, fault: Option<SmallFault>) -> Mode<'p>
     ensures { result ≡ left_mode exit value fault }
 {
     match fault {
@@ -71,7 +72,7 @@ impl<'p> Machine<'p> {
         alloc: Global,
         outer: Items<Path>,
         exit: Exit,
-        value: Value,
+        value: SmallValue,
     ) -> Result<Mode<'p>, OutOfMemory>
         ensures { IfOk result (λ m. (program : ProgramPlan) → Does program self.old (λ (s : State). synced outer (exits exit value s)) 3 self.new m) }
     {
@@ -104,7 +105,7 @@ impl<'p> Machine<'p> {
                     exit: waits.exit,
                     value: waits.value,
                 };
-                self.frames.push(Frame::Waiting(waits))?;
+                self.frames.push(Frame::Waiting(Boxed::new(alloc, waits)?))?;
                 let mode = crate::fork::waits(alloc, op)?;
                 Ok(mode)
             }

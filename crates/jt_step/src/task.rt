@@ -28,9 +28,9 @@ pub enum Advance {
     Over,
 }
 
-/// A task that runs, with the notes of its operations so far.
+/// What is known of a task that runs.
 #[derive(Drop)]
-pub struct TaskRun<'p> {
+pub struct TaskState<'p> {
     program: &'p Program,
     sizes: Sizes,
     limits: Limits,
@@ -49,6 +49,13 @@ pub struct TaskRun<'p> {
     alloc: Global,
 }
 
+/// A task that runs, with the notes of its operations so far. It is one word, so that it is moved at
+/// no cost.
+#[derive(Drop)]
+pub struct TaskRun<'p> {
+    state: Box<TaskState<'p>>,
+}
+
 impl<'p> Model for TaskRun<'p> {
     ghost use Rattle.jt_step.specs.Codes.{Label, coded_program};
     ghost use Rattle.jt_step.specs.Task.{Holds, seen};
@@ -59,9 +66,9 @@ impl<'p> Model for TaskRun<'p> {
 
     ghost coded = { let c : Coded Label = Prim.hlevel codes in Prim.hlevel (codes, coded_program c) };
 
-    ghost view = { seen };
+    ghost view = { λ t. seen t.state.value };
 
-    ghost invariant = { Holds };
+    ghost invariant = { λ t. Holds t.state.value };
 }
 
 /// The pool of a task that is made in this way, where `parent` is the pool of its maker.
@@ -120,7 +127,7 @@ impl<'p> TaskRun<'p> {
         let machine = Machine::new(alloc, program, body.variables, &start, &path, limits.turns)?;
         let pool = pool_of(&path, start.how, sizes, parent);
         let bound = bound_of(&path, start.how);
-        Ok(TaskRun {
+        let state = TaskState {
             program,
             sizes,
             limits: *limits,
@@ -134,6 +141,9 @@ impl<'p> TaskRun<'p> {
             mode: Mode::Begins(&body.code),
             failed: false,
             alloc,
+        };
+        Ok(TaskRun {
+            state: Box::new(alloc, state)?,
         })
     }
 
@@ -148,23 +158,24 @@ impl<'p> TaskRun<'p> {
         ensures kept { OnErr result (self.new ≡ record self.old { taken = self.new.taken; failed = true }) }
         ensures stuck { self.old.failed ≡ true → IsErr result }
     {
-        if self.failed {
+        let state = &mut *self.state;
+        if state.failed {
             return Err(OutOfMemory);
         }
-        self.failed = true;
-        let mode = replace(&mut self.mode, Mode::Over);
-        let (mode, used) = self.machine.run_on(
-            self.alloc,
-            self.program,
-            self.log.as_slice(),
-            self.used,
+        state.failed = true;
+        let mode = replace(&mut state.mode, Mode::Over);
+        let (mode, used) = state.machine.run_on(
+            state.alloc,
+            state.program,
+            state.log.as_slice(),
+            state.used,
             mode,
             turns,
         )?;
-        let told = mode.told(self.alloc)?;
-        self.used = used;
-        self.mode = mode;
-        self.failed = false;
+        let told = mode.told(state.alloc)?;
+        state.used = used;
+        state.mode = mode;
+        state.failed = false;
         Ok(told)
     }
 }
@@ -186,42 +197,42 @@ impl<'p> Job for TaskRun<'p> {
     ghost next = { next_in };
 
     fn path(&self) -> &Path {
-        &self.path
+        &self.state.path
     }
 
     fn pool(&self) -> Pool {
-        self.pool
+        self.state.pool
     }
 
     fn bound(&self) -> Option<u32> {
-        self.bound
+        self.state.bound
     }
 
     fn priority(&self) -> u16 {
-        64 - self.path.len() as u16
+        64 - self.state.path.len() as u16
     }
 
     fn last_stamp(&self) -> u32 {
-        match self.log.last() {
+        match self.state.log.last() {
             None => 0,
             Some(note) => note.stamp,
         }
     }
 
     fn reserve_note(&mut self) -> Result<(), OutOfMemory> {
-        self.log.try_reserve(1)?;
+        self.state.log.try_reserve(1)?;
         Ok(())
     }
 
     fn note(&mut self, stamp: u32, reply: Reply) {
-        match self.log.push(Note { stamp, reply }) {
+        match self.state.log.push(Note { stamp, reply }) {
             Ok(()) => {}
             Err(_) => unreachable!(),
         }
     }
 
     fn bind(&mut self, worker: u32) {
-        self.bound = Some(worker);
+        self.state.bound = Some(worker);
     }
 
     ghost begins = { λ r path start n. first_operation r.program r.limits.turns path start n };

@@ -8,8 +8,9 @@ ghost use Rattle.jt_step.specs.Stack.{Follows, Turns, Settles, rests, begins, re
 use crate::frame::{Frame, Loop};
 use crate::machine::Machine;
 use crate::mode::Mode;
-use crate::variables::{assign, renew, variables_of};
-use jt_base::{Fault, OutOfMemory, Value};
+use crate::small::{Cause, Form, SmallFault, SmallValue};
+use crate::variables::{arguments_of, assign, renew};
+use jt_base::OutOfMemory;
 use jt_program::Program;
 use sqlite_items::at;
 use std::alloc::Global;
@@ -49,16 +50,22 @@ impl<'p> Machine<'p> {
     }
 
     /// Why a call of this function can't begin.
-    fn refusal(&self, program: &Program, f: usize) -> Fault
+    fn refusal(&self, program: &Program, f: usize) -> SmallFault
         ensures { result ≡ refusal (slice_get (program_plan program.now).functions f) self.now.turns }
     {
         match at(program.functions.as_slice(), f) {
-            None => Fault::Method,
+            None => SmallFault {
+                cause: Cause::Method,
+            },
             Some(_) => {
                 if self.turns == 0 {
-                    Fault::TurnLimit
+                    SmallFault {
+                        cause: Cause::TurnLimit,
+                    }
                 } else {
-                    Fault::StackLimit
+                    SmallFault {
+                        cause: Cause::StackLimit,
+                    }
                 }
             }
         }
@@ -91,7 +98,9 @@ impl<'p> Machine<'p> {
             }
             Mode::Faulted(fault) => Ok(self.fail(alloc, fault)?),
             Mode::Enter(f, _vs) => Ok(Mode::Faulted(self.refusal(program, f))),
-            Mode::Again(_) => Ok(Mode::Faulted(Fault::TurnLimit)),
+            Mode::Again(_) => Ok(Mode::Faulted(SmallFault {
+                cause: Cause::TurnLimit,
+            })),
             _ => unreachable!(),
         }
     }
@@ -110,7 +119,7 @@ impl<'p> Machine<'p> {
             Mode::Enter(f, vs) => match at(program.functions.as_slice(), f) {
                 None => unreachable!(),
                 Some(body) => {
-                    let variables = variables_of(alloc, body.variables, vs.as_slice())?;
+                    let variables = arguments_of(alloc, body.variables, vs.as_slice())?;
                     let caller = replace(&mut self.variables, variables);
                     self.frames.push(Frame::Call(caller, self.open_calls))?;
                     self.open_calls += 1;
@@ -140,7 +149,11 @@ impl<'p> Machine<'p> {
             }
             Loop::Range(first, count, body, i, _last) => {
                 renew(&mut self.variables, first, count)?;
-                assign(&mut self.variables, first, Value::Int(i));
+                assign(
+                    &mut self.variables,
+                    first,
+                    SmallValue { form: Form::Int(i) },
+                );
                 self.frames.push(Frame::Loop(turns))?;
                 self.turns -= 1;
                 Ok(Mode::Eval(body))

@@ -8,12 +8,17 @@ ghost use Rattle.jt_step.specs.Stack.{Follows, Hands};
 use crate::frame::{Exit, Frame};
 use crate::machine::Machine;
 use crate::mode::Mode;
-use jt_base::{Fault, OutOfMemory, Value};
+use crate::small::{Cause, Form, SmallFault, SmallValue};
+use jt_base::OutOfMemory;
 use std::alloc::Global;
 
 impl<'p> Machine<'p> {
     /// The open call has this value.
-    pub(crate) fn return_value(&mut self, alloc: Global, v: Value) -> Result<Mode<'p>, OutOfMemory>
+    pub(crate) fn return_value(
+        &mut self,
+        alloc: Global,
+        v: SmallValue,
+    ) -> Result<Mode<'p>, OutOfMemory>
         ensures { IfOk result (λ m. (program : ProgramPlan) → Follows program self.old (Mode.Returned v) self.new m) }
     {
         match self.frames.pop() {
@@ -29,7 +34,7 @@ impl<'p> Machine<'p> {
         &mut self,
         alloc: Global,
         frame: Frame<'p>,
-        v: Value,
+        v: SmallValue,
     ) -> Result<Mode<'p>, OutOfMemory>
         ensures { IfOk result (λ m. (program : ProgramPlan) → Hands program self.old frame.entry (Returned v) self.new m) }
     {
@@ -52,7 +57,9 @@ impl<'p> Machine<'p> {
         ensures { (program : ProgramPlan) → Follows program self.old Mode.Broke self.new result }
     {
         match self.frames.pop() {
-            None => Mode::Failing(Fault::Method),
+            None => Mode::Failing(SmallFault {
+                cause: Cause::Method,
+            }),
             Some(frame) => self.leave_loop_to(frame),
         }
     }
@@ -65,8 +72,12 @@ impl<'p> Machine<'p> {
                 self.awaited = outer;
                 Mode::Broke
             }
-            Frame::Call(_, _) => Mode::Faulted(Fault::Method),
-            Frame::Loop(_) => Mode::Gave(Value::Nothing),
+            Frame::Call(_, _) => Mode::Faulted(SmallFault {
+                cause: Cause::Method,
+            }),
+            Frame::Loop(_) => Mode::Gave(SmallValue {
+                form: Form::Nothing,
+            }),
             _ => Mode::Broke,
         }
     }
@@ -76,7 +87,9 @@ impl<'p> Machine<'p> {
         ensures { IfOk result (λ m. (program : ProgramPlan) → Follows program self.old Mode.Continued self.new m) }
     {
         match self.frames.pop() {
-            None => Ok(Mode::Failing(Fault::Method)),
+            None => Ok(Mode::Failing(SmallFault {
+                cause: Cause::Method,
+            })),
             Some(frame) => {
                 let mode = self.next_turn_to(frame)?;
                 Ok(mode)
@@ -88,7 +101,9 @@ impl<'p> Machine<'p> {
         ensures { IfOk result (λ m. (program : ProgramPlan) → Hands program self.old frame.entry Continued self.new m) }
     {
         match frame {
-            Frame::Call(_, _) => Ok(Mode::Faulted(Fault::Method)),
+            Frame::Call(_, _) => Ok(Mode::Faulted(SmallFault {
+                cause: Cause::Method,
+            })),
             Frame::Loop(turns) => {
                 let mode = self.go_on(turns)?;
                 Ok(mode)
@@ -102,7 +117,7 @@ impl<'p> Machine<'p> {
     }
 
     /// A part failed.
-    pub(crate) fn fail(&mut self, alloc: Global, fault: Fault) -> Result<Mode<'p>, OutOfMemory>
+    pub(crate) fn fail(&mut self, alloc: Global, fault: SmallFault) -> Result<Mode<'p>, OutOfMemory>
         ensures { IfOk result (λ m. (program : ProgramPlan) → Follows program self.old (Mode.Faulted fault) self.new m) }
     {
         match self.frames.pop() {
@@ -118,13 +133,13 @@ impl<'p> Machine<'p> {
         &mut self,
         alloc: Global,
         frame: Frame<'p>,
-        fault: Fault,
+        fault: SmallFault,
     ) -> Result<Mode<'p>, OutOfMemory>
         ensures { IfOk result (λ m. (program : ProgramPlan) → Hands program self.old frame.entry (Faulted fault) self.new m) }
     {
         match frame {
             Frame::Waiting(waits) => {
-                let mode = self.next_wait(alloc, waits.failed(fault))?;
+                let mode = self.next_wait(alloc, waits.into_inner().failed(fault))?;
                 Ok(mode)
             }
             _ => Ok(Mode::Faulted(fault)),

@@ -3,11 +3,15 @@
 ghost use Rattle.std.specs.Prelude.{◌≡◌, int_lt, int_le};
 ghost use Rattle.jt_step.specs.Values as spec;
 
-use jt_base::Value;
+use crate::small::{Form, SmallValue};
 use jt_syntax::ComparisonOperator;
 
 /// Whether a comparison holds between two values; nothing where they can't be compared so.
-pub(crate) fn compare(operator: ComparisonOperator, left: &Value, right: &Value) -> Option<bool>
+pub(crate) fn compare(
+    operator: ComparisonOperator,
+    left: &SmallValue,
+    right: &SmallValue,
+) -> Option<bool>
     ensures { result ≡ spec.compared_by operator left.now right.now }
 {
     match operator {
@@ -21,23 +25,23 @@ pub(crate) fn compare(operator: ComparisonOperator, left: &Value, right: &Value)
 }
 
 // Whether two values are equal: whole numbers, truth values, or `nothing` and any value.
-fn equal(left: &Value, right: &Value) -> Option<bool>
+fn equal(left: &SmallValue, right: &SmallValue) -> Option<bool>
     ensures { result ≡ spec.equal left.now right.now }
 {
-    match left {
-        Value::Int(a) => match right {
-            Value::Int(b) => Some(*a == *b),
-            Value::Nothing => Some(false),
+    match &left.form {
+        Form::Int(a) => match &right.form {
+            Form::Int(b) => Some(*a == *b),
+            Form::Nothing => Some(false),
             _ => None,
         },
-        Value::Flag(a) => match right {
-            Value::Flag(b) => Some(*a == *b),
-            Value::Nothing => Some(false),
+        Form::Flag(a) => match &right.form {
+            Form::Flag(b) => Some(*a == *b),
+            Form::Nothing => Some(false),
             _ => None,
         },
-        Value::Nothing => Some(matches!(right, Value::Nothing)),
-        _ => match right {
-            Value::Nothing => Some(false),
+        Form::Nothing => Some(matches!(&right.form, Form::Nothing)),
+        _ => match &right.form {
+            Form::Nothing => Some(false),
             _ => None,
         },
     }
@@ -53,12 +57,12 @@ fn opposite(answer: Option<bool>) -> Option<bool>
 }
 
 // Whether one number is less than the other.
-fn less(left: &Value, right: &Value) -> Option<bool>
+fn less(left: &SmallValue, right: &SmallValue) -> Option<bool>
     ensures { result ≡ spec.ordered (λ a b. int_lt a b) left.now right.now }
 {
-    match left {
-        Value::Int(a) => match right {
-            Value::Int(b) => Some(*a < *b),
+    match &left.form {
+        Form::Int(a) => match &right.form {
+            Form::Int(b) => Some(*a < *b),
             _ => None,
         },
         _ => None,
@@ -66,12 +70,12 @@ fn less(left: &Value, right: &Value) -> Option<bool>
 }
 
 // Whether one number is at most the other.
-fn less_equal(left: &Value, right: &Value) -> Option<bool>
+fn less_equal(left: &SmallValue, right: &SmallValue) -> Option<bool>
     ensures { result ≡ spec.ordered (λ a b. int_le a b) left.now right.now }
 {
-    match left {
-        Value::Int(a) => match right {
-            Value::Int(b) => Some(*a <= *b),
+    match &left.form {
+        Form::Int(a) => match &right.form {
+            Form::Int(b) => Some(*a <= *b),
             _ => None,
         },
         _ => None,

@@ -5,9 +5,9 @@ use Rattle.jt_step.specs.Values.{error_of}
 use Rattle.jt_step.proofs.Utf8.{text_of-valid, text_of-broken}
 use Rattle.jt_step.proofs.value.error_fault.Goals as goal
 
-pub returns-in_ok-from_str-in-Ok : goal.returns-in_ok-from_str-in-Ok
-returns-in_ok-from_str-in-Ok c =
-    ap Error (c.in_ok-from_str-in-Ok.ensures ∙ c.in-Ok.ensures.cases.0)
+pub returns-in_ok-error-in-Ok : goal.returns-in_ok-error-in-Ok
+returns-in_ok-error-in-Ok c =
+    c.in_ok-error-in-Ok.ensures ∙ ap Error (c.in_ok-text-in-Ok.ensures ∙ c.in-Ok.ensures.cases.0)
     ∙ sym (ap error_of (text_of-valid c.args.bytes.now c.in-Ok.ensures.cases.1))
 
 pub returns-in-Err : goal.returns-in-Err

@@ -7,7 +7,7 @@ use Rattle.jt_step.proofs.Unwinds.{fault_passes}
 use Rattle.jt_step.proofs.machine.Machine.fail_to.Goals as goal
 
 pub returns-in-Waiting : goal.returns-in-Waiting
-returns-in-Waiting c = λ program. gives_by program _ _ _ _ _ _ _ (c.in_ok-mode-in-Waiting.ensures program) (λ s. rw (c.in-Waiting.is, c.failed.ensures)) (rw c.in-Waiting.is (omega arith))
+returns-in-Waiting c = λ program. gives_by program _ _ _ _ _ _ _ (c.in_ok-mode-in-Waiting.ensures program) (λ s. rw (c.in-Waiting.is, c.failed.ensures, c.into_inner.ensures)) (rw c.in-Waiting.is (omega arith))
 
 pub returns : goal.returns
 returns c = λ program. record {

@@ -17,7 +17,7 @@ proceeds connective.And false k s h = absurd (cc)
 proceeds connective.Or true k s h = absurd (cc)
 proceeds connective.Or false k s h = refl
 
-pub returns-in_ok-push-in-Flag : goal.returns-in_ok-push-in-Flag
-returns-in_ok-push-in-Flag c =
+pub returns-then-flag-asking : goal.returns-then-flag-asking
+returns-then-flag-asking c =
     let h = rw c.asking.ensures at c.if-flag-asking.true in
-    λ program. pushes program _ _ _ _ _ _ c.in_ok-push-in-Flag.ensures.items (λ rs. refl) refl (λ s. rw (c.in-Some.ensures, c.in-Flag.is) (proceeds c.args.connective c.in-Flag.flag _ s h)) (rw c.in-Some.ensures (omega arith))
+    λ program. pushes program _ _ _ _ _ _ c.in_ok-push-in-Flag.ensures.items (λ rs. refl) refl (λ s. rw (c.in-Some.ensures, ← c.v.view_is, c.in-Flag.is) (proceeds c.args.connective c.in-Flag.flag _ s h)) (rw c.in-Some.ensures (omega arith))

@@ -1,7 +1,7 @@
--- One frame is pushed, and what it does with the part's value is what follows.
+-- The first part that is left begins, and the others stand behind it.
 use Rattle.std.proofs.Common.{arith, refl}
-use Rattle.jt_step.proofs.Moves.{pushes}
+use Rattle.jt_step.proofs.Moves.{does_from}
 use Rattle.jt_step.proofs.machine.Machine.next_part.Goals as goal
 
-pub returns-in_ok-push-in-Some : goal.returns-in_ok-push-in-Some
-returns-in_ok-push-in-Some c = λ program. pushes program _ _ _ _ _ _ c.in_ok-push-in-Some.ensures.items (λ rs. refl) refl (λ s. rw c.in-Some.ensures) (rw c.in-Some.ensures (omega arith))
+pub returns-in_ok-begin_part-in-Some : goal.returns-in_ok-begin_part-in-Some
+returns-in_ok-begin_part-in-Some c = λ program. does_from program _ _ _ _ _ _ _ _ refl (c.in_ok-begin_part-in-Some.ensures program) (λ rs. rw c.in-Some.ensures) (rw c.in-Some.ensures (omega arith))

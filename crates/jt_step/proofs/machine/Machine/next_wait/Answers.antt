@@ -15,4 +15,4 @@ overflow_add-waits c =
     omega (arith, fits, within)
 
 pub returns : goal.returns
-returns c = λ program. waits_next program _ _ c.args.waits c.in-Some.path.now _ (rw c.copy.ensures at c.in_ok-mode-in-Some.ensures) c.in_ok-push-in-Some.ensures.items (λ rs. refl) refl (sym (rw c.as_slice.ensures at c.in-Some.ensures))
+returns c = λ program. waits_next program _ _ c.args.waits c.in-Some.path.now _ (rw c.copy.ensures at c.in_ok-mode-in-Some.ensures) (rw c.in_ok-new-in-Some.ensures at c.in_ok-push-in-Some.ensures.items) (λ rs. refl) refl (sym (rw c.as_slice.ensures at c.in-Some.ensures))

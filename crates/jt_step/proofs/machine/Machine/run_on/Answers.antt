@@ -13,8 +13,8 @@ moves-preserved-then-begins c = let s = c.in_ok-mode.ensures in let b = c.in_ok-
 }
 
 pub moves-preserved : goal.moves-preserved
-moves-preserved c = let s = c.in_ok-mode.ensures in let a = c.answer-mode.ensures in let w = c.if-not-waits.ensures in record {
-  same = λ rs. let lt : c.moves.used < length c.args.log.now = omega arith in reply_step (program_plan c.args.program.now) c.settle.new.self c.in_ok-mode.mode _ c.args.log.now c.moves.used _ rs lt c.if-not-waits.ensures c.answer-mode.ensures ∙ s.same _ ∙ c.moves.invariant.same rs;
+moves-preserved c = let s = c.in_ok-mode.ensures in let a = c.in_ok-mode-3.ensures in let w = c.if-not-waits.ensures in record {
+  same = λ rs. let lt : c.moves.used < length c.args.log.now = omega arith in reply_step (program_plan c.args.program.now) c.settle.new.self c.in_ok-mode.mode _ c.args.log.now c.moves.used _ rs lt c.if-not-waits.ensures c.in_ok-mode-3.ensures ∙ s.same _ ∙ c.moves.invariant.same rs;
   within = omega arith;
   few = c.moves.invariant.few;
   turns = omega (arith, s.turns, c.moves.invariant.turns);

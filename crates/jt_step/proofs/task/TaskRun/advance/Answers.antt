@@ -13,30 +13,33 @@ use Rattle.jt_step.proofs.task.TaskRun.advance.Goals as goal
 
 pub returns-clause-ok : goal.returns-clause-ok
 returns-clause-ok c =
-    let f = c.if-self.false in
-    let i = c.self.inside in
-    let same = c.self.invariant.same f [] ∙ ap (task (program_plan i.program.now) i.limits.turns i.path i.start) (append-nil (map note_reply i.log.items)) in
+    let f = c.if-state.false in
+    let i = c.deref_mut-state.result.now in
+    let holds = rw (← c.deref_mut-state.ensures.value) at c.self.invariant in
+    let same = holds.same f [] ∙ ap (task (program_plan i.program.now) i.limits.turns i.path i.start) (append-nil (map note_reply i.log.items)) in
     let runs = rw (c.replace-mode.ensures.value, c.as_slice.ensures.value) at c.in_ok-mode.ensures in
-    rw (← c.self.view_is) (record {
+    rw (← c.self.view_is, ← c.deref_mut-state.ensures.value) (record {
       kept = rw f refl;
-      says = run_says (program_plan i.program.now) i.machine c.run_on.new.self i.mode c.in_ok-mode.mode (seen i) i.used c.in_ok-mode.used c.args.turns _ (c.self.invariant.few f) refl same runs c.in_ok-told.ensures;
+      says = run_says (program_plan i.program.now) i.machine c.run_on.new.self i.mode c.in_ok-mode.mode (seen i) i.used c.in_ok-mode.used c.args.turns _ (holds.few f) refl same runs c.in_ok-told.ensures;
     })
 
 pub returns-clause-goes_on : goal.returns-clause-goes_on
 returns-clause-goes_on c = λ op r tells can.
-    let f = c.if-self.false in
-    let i = c.self.inside in
-    let same = c.self.invariant.same f [] ∙ ap (task (program_plan i.program.now) i.limits.turns i.path i.start) (append-nil (map note_reply i.log.items)) in
+    let f = c.if-state.false in
+    let i = c.deref_mut-state.result.now in
+    let holds = rw (← c.deref_mut-state.ensures.value) at c.self.invariant in
+    let same = holds.same f [] ∙ ap (task (program_plan i.program.now) i.limits.turns i.path i.start) (append-nil (map note_reply i.log.items)) in
     let runs = rw (c.replace-mode.ensures.value, c.as_slice.ensures.value) at c.in_ok-mode.ensures in
     let comes = told_comes (program_plan i.program.now) i.machine c.run_on.new.self i.mode c.in_ok-mode.mode (seen i) i.used c.in_ok-mode.used c.args.turns _ op same runs c.in_ok-told.ensures tells in
     goes_on (program_plan i.program.now) i.limits.turns i.path i.start (map note_reply i.log.items) op r (ap op_of comes ∙ tells) can
 
 pub returns-clause-asks_well : goal.returns-clause-asks_well
 returns-clause-asks_well c =
-    let f = c.if-self.false in
-    let i = c.self.inside in
+    let f = c.if-state.false in
+    let i = c.deref_mut-state.result.now in
+    let holds = rw (← c.deref_mut-state.ensures.value) at c.self.invariant in
     let p = program_plan i.program.now in let log = map note_reply i.log.items in
-    let same = c.self.invariant.same f [] ∙ ap (task p i.limits.turns i.path i.start) (append-nil log) in
+    let same = holds.same f [] ∙ ap (task p i.limits.turns i.path i.start) (append-nil log) in
     let runs = rw (c.replace-mode.ensures.value, c.as_slice.ensures.value) at c.in_ok-mode.ensures in
     let comes : (op : Op) → op_of (told c.in_ok-told.told) ≡ Some op → coming (seen i) ≡ told c.in_ok-told.told =
     λ op tells. told_comes p i.machine c.run_on.new.self i.mode c.in_ok-mode.mode (seen i) i.used c.in_ok-mode.used c.args.turns _ op same runs c.in_ok-told.ensures tells in

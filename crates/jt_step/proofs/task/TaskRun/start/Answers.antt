@@ -14,13 +14,13 @@ invariant_of-result c =
     let here = rw c.as_slice.ensures at c.index-as_slice-start.is in
     let is = slice_get-map body_plan tasks code ∙ ap (option_map body_plan) (slice_get-get_or tasks code b within ∙ ap Some (sym here)) in
     let m = c.in_ok-machine.ensures in
-    record {
+    rw c.in_ok-new.ensures.ok (record {
       same = λ f rs. starts (program_plan c.args.program.now) c.in_ok-machine.machine c.args.limits.now.turns c.args.path c.args.start (body_plan b) (record { ref_ptr = (0, 0); now = b.code }) c.new-2.result.items rs is refl m.frames m.variables m.state c.new-2.ensures.items;
       within = omega arith;
       few = λ f. omega (arith, ap (λ (s : State). s.turns) (m.state []));
-    }
+    })
 
 pub returns : goal.returns
 returns c =
     let turns = ap (λ (s : State). s.turns) (c.in_ok-machine.ensures.state []) in
-    new_seen _ c.args.path c.args.start c.args.parent _ _ _ _ _ c.pool_of-pool.ensures (c.bound_of-bound.ensures c.args.sizes c.args.parent) c.new-2.ensures.items (omega (arith, c.new-2.ensures.capacity)) (omega (arith, turns))
+    rw c.in_ok-new.ensures.ok (new_seen _ c.args.path c.args.start c.args.parent _ _ _ _ _ c.pool_of-pool.ensures (c.bound_of-bound.ensures c.args.sizes c.args.parent) c.new-2.ensures.items (omega (arith, c.new-2.ensures.capacity)) (omega (arith, turns)))
