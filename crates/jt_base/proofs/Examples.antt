@@ -1,6 +1,10 @@
 -- Worked examples of the definitions.
 use Rattle.std.proofs.Common.{◌≡◌, ℕ, ◌<◌, ◌≤◌, ◌⊎◌, List, [], ◌∷◌, None, Some, Result, Ok, Err, refl, lit≤, arith}
 use Rattle.jt_base.specs.Names.{shard_of, priority_of}
+use Rattle.jt_base.specs.Objects.{object_of, shard_of_object}
+use Rattle.jt_base.specs.declared.object.Object.TheVariants.{Printer, Task, Named}
+use Rattle.jt_base.specs.declared.operation.Op.TheVariants.{Spawn, Print, Take}
+use Rattle.jt_base.specs.declared.operation.How.TheVariants.{Default}
 use Rattle.jt_base.specs.Outside.{most_count, raised, Rose, Reads, Writes, ReadsToEnd, Gives, WritesPrefix}
 use Rattle.jt_base.specs.MemorySource.{SourceState, read_count, after_read, after_failed_read}
 use Rattle.jt_base.specs.MemorySink.{SinkState, write_count, after_write}
@@ -16,6 +20,19 @@ shard_of_name = refl
 
 priority_of_main : priority_of [] ≡ 64
 priority_of_main = refl
+
+-- ---- Objects
+
+-- a spawn acts on the new task's completion, whoever makes it
+object_of_spawn : object_of (2 ∷ []) (Spawn (2 ∷ 5 ∷ []) Default) ≡ Task (2 ∷ 5 ∷ [])
+object_of_spawn = refl
+
+-- an object's shard is that of its name, not of the task that uses it
+shard_of_take : shard_of_object (object_of (2 ∷ []) (Take (record { path = 7 ∷ 12 ∷ []; number = 30 }))) ≡ 1
+shard_of_take = refl
+
+shard_of_printer : shard_of_object Printer ≡ 0
+shard_of_printer = refl
 
 -- ---- Counts
 

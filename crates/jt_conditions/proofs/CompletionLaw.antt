@@ -10,8 +10,9 @@ use Rattle.jt_base.specs.declared.operation.Reply.{Reply}
 use Rattle.jt_base.specs.declared.entry.Entry.{Entry}
 use Rattle.jt_base.specs.declared.entry.Ask.{Ask}
 use Rattle.jt_base.specs.declared.entry.Ask.TheVariants.{NotYet}
-use Rattle.jt_laws.specs.Entries.{object_of, spawns, ends}
-use Rattle.jt_laws.specs.Entries.Object.{Task}
+use Rattle.jt_base.specs.Objects.{object_of}
+use Rattle.jt_laws.specs.Entries.{spawns, ends}
+use Rattle.jt_base.specs.declared.object.Object.TheVariants.{Task}
 use Rattle.jt_laws.specs.Tasks.{ok_if, is_new, is_main, is_begin, is_spawned, has_begun, has_ended, fetch_of, wait_of}
 use Rattle.jt_laws.specs.Objects.{reply_after, IsLawful, answer_of, Asked}
 use Rattle.jt_laws.proofs.Paths.{same_itself}

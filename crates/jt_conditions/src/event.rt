@@ -4,8 +4,9 @@ ghost use Rattle.std.specs.Prelude.{◌≡◌, false, ℕ, List};
 ghost use Rattle.jt_base.specs.declared.entry.Ask.TheVariants.{NotYet};
 ghost use Rattle.jt_base.specs.declared.name.Name.{Name};
 ghost use Rattle.jt_base.specs.declared.operation.Op.TheVariants.{NewEvent};
-ghost use Rattle.jt_laws.specs.Entries.{Object, object_of};
-ghost use Rattle.jt_laws.specs.Entries.Object.{Named};
+ghost use Rattle.jt_base.specs.declared.object.Object.{Object};
+ghost use Rattle.jt_base.specs.Objects.{object_of};
+ghost use Rattle.jt_base.specs.declared.object.Object.TheVariants.{Named};
 ghost use Rattle.jt_laws.specs.Objects.{Asked, MadeBy};
 ghost use Rattle.jt_conditions.specs.Events.{EventState, event_left_by, is_event_op, event_wait_answer, event_after_wait};
 

@@ -5,8 +5,10 @@ ghost use Rattle.jt_base.specs.declared.entry.Ask.TheVariants.{Done, NotYet};
 ghost use Rattle.jt_base.specs.declared.name.Name.{Name};
 ghost use Rattle.jt_base.specs.declared.operation.Op.TheVariants.{NewLock, Lock as Locks};
 ghost use Rattle.jt_base.specs.declared.operation.Reply.TheVariants as reply;
-ghost use Rattle.jt_laws.specs.Entries.{Object, object_of, same_path};
-ghost use Rattle.jt_laws.specs.Entries.Object.{Named};
+ghost use Rattle.jt_base.specs.declared.object.Object.{Object};
+ghost use Rattle.jt_base.specs.Objects.{object_of};
+ghost use Rattle.jt_laws.specs.Entries.{same_path};
+ghost use Rattle.jt_base.specs.declared.object.Object.TheVariants.{Named};
 ghost use Rattle.jt_laws.specs.Objects.{Asked, MadeBy};
 ghost use Rattle.jt_conditions.specs.Locks.{Holder, is_lock_op, lock_left_by, level_in, lock_answer, after_lock, reply_to, after_unlock, holding};
 

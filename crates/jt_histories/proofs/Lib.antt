@@ -10,5 +10,6 @@ pub mod Keeps
 pub mod Start
 pub mod Turning
 pub mod Resting
-pub mod Sorting
+pub mod Taking
+pub mod FrontSteps
 pub mod MainEnd

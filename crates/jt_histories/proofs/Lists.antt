@@ -6,7 +6,9 @@ use Rattle.std.proofs.lemmas.List.{append-nil}
 use Rattle.std.proofs.lemmas.List.Elements.{filter-append}
 use Rattle.jt_base.specs.declared.entry.Entry.{Entry}
 use Rattle.jt_base.specs.declared.name.Name.{Name}
-use Rattle.jt_laws.specs.Entries.{same_path, same_name, same_object, Object, Printer, Task, Named, In, Each, Rising, top}
+use Rattle.jt_base.specs.declared.object.Object.{Object}
+use Rattle.jt_base.specs.declared.object.Object.TheVariants.{Printer, Task, Named}
+use Rattle.jt_laws.specs.Entries.{same_path, same_name, same_object, In, Each, Rising, top}
 use Rattle.jt_laws.proofs.Paths.{same_itself, same_equal}
 
 pub or_else : {A B P : Type 0} → A ⊎ B → (A → P) → (B → P) → P

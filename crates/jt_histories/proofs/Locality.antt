@@ -6,7 +6,9 @@ use Rattle.std.proofs.lemmas.List.{append-nil}
 use Rattle.jt_base.specs.declared.operation.Reply.{Reply}
 use Rattle.jt_base.specs.declared.entry.Entry.{Entry}
 use Rattle.jt_base.specs.Coming.{Next, op_of}
-use Rattle.jt_laws.specs.Entries.{Object, same_path, same_object, object, shard, shard_of_object, spawns, of_task, of_object, of_shard, below, top, reply_of, In, Rising}
+use Rattle.jt_base.specs.declared.object.Object.{Object}
+use Rattle.jt_base.specs.Objects.{shard_of_object}
+use Rattle.jt_laws.specs.Entries.{same_path, same_object, object, shard, spawns, of_task, of_object, of_shard, below, top, reply_of, In, Rising}
 use Rattle.jt_laws.specs.Seats.{seat_of, may_work}
 use Rattle.jt_laws.specs.Objects.{reply_after}
 use Rattle.jt_laws.specs.Histories.{World, Birth, birth_from, born_in, born_of, birth_at, birth_of, Fits, Stamps}

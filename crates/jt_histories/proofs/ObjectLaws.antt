@@ -7,7 +7,9 @@ use Rattle.jt_base.specs.declared.operation.Op.{Op}
 use Rattle.jt_base.specs.declared.operation.Op.TheVariants.{Begin, Spawn}
 use Rattle.jt_base.specs.declared.operation.Reply.{Reply}
 use Rattle.jt_base.specs.declared.entry.Entry.{Entry}
-use Rattle.jt_laws.specs.Entries.{Task, object_of, spawns, ends, In}
+use Rattle.jt_base.specs.declared.object.Object.TheVariants.{Task}
+use Rattle.jt_base.specs.Objects.{object_of}
+use Rattle.jt_laws.specs.Entries.{spawns, ends, In}
 use Rattle.jt_base.specs.Jobs.{Seat}
 use Rattle.jt_laws.specs.Seats.{seat_after, seat_from}
 use Rattle.jt_laws.specs.Tasks.{is_new, is_main, is_spawned, has_begun}

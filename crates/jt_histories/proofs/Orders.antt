@@ -3,7 +3,10 @@ use Rattle.std.proofs.Common.{◌≡◌, ℕ, ◌<◌, ◌≤◌, List, [], ◌�
 use Rattle.std.specs.Prelude.{filter}
 use Rattle.std.proofs.lemmas.Bool.{ltb-true, ltb-false}
 use Rattle.jt_base.specs.declared.entry.Entry.{Entry}
-use Rattle.jt_laws.specs.Entries.{Object, Printer, Task, Named, object, shard, shard_of_object, In, Ordered, key}
+use Rattle.jt_base.specs.declared.object.Object.{Object}
+use Rattle.jt_base.specs.declared.object.Object.TheVariants.{Printer, Task, Named}
+use Rattle.jt_base.specs.Objects.{shard_of_object}
+use Rattle.jt_laws.specs.Entries.{object, shard, In, Ordered, key}
 use Rattle.jt_histories.specs.Merges.{insert_entry}
 use Rattle.jt_histories.proofs.Lists.{or_else, by_test, filter_yes, filter_no, filter_none, each_in, each_from}
 

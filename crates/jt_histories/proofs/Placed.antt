@@ -7,7 +7,8 @@ use Rattle.std.proofs.lemmas.List.Elements.{filter-append}
 use Rattle.jt_base.specs.declared.operation.Reply.{Reply}
 use Rattle.jt_base.specs.declared.entry.Entry.{Entry}
 use Rattle.jt_base.specs.Coming.{Next, Spawns, op_of}
-use Rattle.jt_laws.specs.Entries.{Task, same_path, same_object, object, shard, spawns, ends, of_task, of_object, of_shard, top, reply_of, In, Each, Rising, Ordered}
+use Rattle.jt_base.specs.declared.object.Object.TheVariants.{Task}
+use Rattle.jt_laws.specs.Entries.{same_path, same_object, object, shard, spawns, ends, of_task, of_object, of_shard, top, reply_of, In, Each, Rising, Ordered}
 use Rattle.jt_laws.specs.Seats.{seat_of, may_work}
 use Rattle.jt_laws.specs.Objects.{reply_after}
 use Rattle.jt_laws.specs.Histories.{World, Birth, birth_from, born_in, born_of, birth_at, birth_of, stamp_after, Fits, Stamps, IsLegalHistory}

@@ -5,7 +5,8 @@ use Rattle.std.proofs.lemmas.List.{map-append}
 use Rattle.jt_base.specs.declared.operation.Op.{Op}
 use Rattle.jt_base.specs.declared.entry.Entry.{Entry}
 use Rattle.jt_base.specs.Coming.{op_of}
-use Rattle.jt_laws.specs.Entries.{object_of, shard, shard_of_object, same_path, ends, of_task, of_object, below, reply_of, In, Rising, key, Ordered}
+use Rattle.jt_base.specs.Objects.{object_of, shard_of_object}
+use Rattle.jt_laws.specs.Entries.{shard, same_path, ends, of_task, of_object, below, reply_of, In, Rising, key, Ordered}
 use Rattle.jt_laws.specs.Objects.{reply_after}
 use Rattle.jt_laws.specs.Histories.{World, Birth, birth_of, LegalFrom, StampedFrom, IsLegalHistory}
 use Rattle.jt_laws.specs.Lines.{cut_at_main_end, is_main_end}

@@ -6,7 +6,8 @@ use Rattle.std.proofs.lemmas.List.{reverse-append, append-nil}
 use Rattle.std.proofs.lemmas.List.Elements.{filter-append}
 use Rattle.jt_base.specs.declared.entry.Entry.{Entry}
 use Rattle.jt_base.specs.Coming.{op_of}
-use Rattle.jt_laws.specs.Entries.{same_path, same_object, object, object_of, shard, shard_of_object, spawns, of_task, of_object, of_shard, below, reply_of, In, Each, Rising}
+use Rattle.jt_base.specs.Objects.{object_of, shard_of_object}
+use Rattle.jt_laws.specs.Entries.{same_path, same_object, object, shard, spawns, of_task, of_object, of_shard, below, reply_of, In, Each, Rising}
 use Rattle.jt_laws.specs.Objects.{reply_after}
 use Rattle.jt_laws.specs.Histories.{World, Birth, birth_at, Fits, Stamps, LegalFrom, StampedFrom, IsLegalRun, IsLegalHistory}
 use Rattle.jt_laws.proofs.Paths.{same_itself, same_equal}

@@ -4,7 +4,8 @@ use Rattle.jt_base.specs.declared.operation.Op.{Op}
 use Rattle.jt_base.specs.declared.operation.Reply.{Reply}
 use Rattle.jt_base.specs.declared.entry.Entry.{Entry}
 use Rattle.jt_base.specs.Coming.{op_of}
-use Rattle.jt_laws.specs.Entries.{object, object_of, shard, shard_of_object, spawns, ends, of_task, of_object, reply_of, In}
+use Rattle.jt_base.specs.Objects.{object_of, shard_of_object}
+use Rattle.jt_laws.specs.Entries.{object, shard, spawns, ends, of_task, of_object, reply_of, In}
 use Rattle.jt_laws.specs.Objects.{reply_after}
 use Rattle.jt_laws.specs.Seats.{may_work}
 use Rattle.jt_laws.specs.Histories.{World, Birth, birth_of, Fits, stamp_after}

@@ -2,12 +2,13 @@
 #![tactic(auto)]
 
 mod cutting;
+mod fronts;
 mod merging;
 mod order;
 mod world;
 
 pub use cutting::cut_at_main_end;
-pub use merging::{merge, shard_of};
+pub use merging::merge;
 pub use order::{front_is_legal, legal_by_stamps, locality_law, merge_law};
 pub use world::{
     entry_keeps, limit_is_met, merge_is_legal, moved_keeps, shut_keeps, start_holds, stuck_is_rest,

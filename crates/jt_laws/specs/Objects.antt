@@ -8,7 +8,8 @@ use Rattle.jt_base.specs.declared.operation.Reply.TheVariants as reply
 use Rattle.jt_base.specs.declared.entry.Entry.{Entry}
 use Rattle.jt_base.specs.declared.entry.Ask.{Ask}
 use Rattle.jt_base.specs.declared.entry.Ask.TheVariants.{Done, NotYet}
-use Rattle.jt_laws.specs.Entries.{Object, of_object}
+use Rattle.jt_base.specs.declared.object.Object.{Object}
+use Rattle.jt_laws.specs.Entries.{of_object}
 use Rattle.jt_laws.specs.Tasks.{ok_if, is_new, spawn_reply, begin_reply, own_reply, fetch_reply, wait_reply}
 use Rattle.jt_laws.specs.Channels.{on_channel, put_reply, offer_reply, landed_reply, take_reply, has_item, is_closed}
 use Rattle.jt_laws.specs.Atomics.{value_reply, set_reply}

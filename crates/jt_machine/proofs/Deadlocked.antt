@@ -8,7 +8,8 @@ use Rattle.jt_base.specs.declared.operation.Op.{Op}
 use Rattle.jt_base.specs.declared.run.Seeds.{Seeds}
 use Rattle.jt_base.specs.Coming.{op_of}
 use Rattle.jt_base.specs.Jobs.{Held, note_reply}
-use Rattle.jt_laws.specs.Entries.{object_of, shard_of_object, of_object}
+use Rattle.jt_base.specs.Objects.{object_of, shard_of_object}
+use Rattle.jt_laws.specs.Entries.{of_object}
 use Rattle.jt_laws.specs.Objects.{reply_after}
 use Rattle.jt_histories.specs.Jobs.{Has}
 use Rattle.jt_histories.specs.Rest.{AllStuck}

@@ -14,7 +14,8 @@ use Rattle.jt_base.specs.declared.run.Pool.TheVariants as pool
 use Rattle.jt_base.specs.declared.run.Seeds.{Seeds}
 use Rattle.jt_base.specs.Coming.{Next, Needs, Spawns, op_of, is_spawn}
 use Rattle.jt_base.specs.Jobs.{Seat, Held, note_reply, last_note}
-use Rattle.jt_laws.specs.Entries.{object, shard, shard_of_object, of_object, ends, In}
+use Rattle.jt_base.specs.Objects.{shard_of_object}
+use Rattle.jt_laws.specs.Entries.{object, shard, of_object, ends, In}
 use Rattle.jt_laws.specs.Lines.{is_main_end}
 use Rattle.jt_laws.specs.Objects.{reply_after}
 use Rattle.jt_laws.specs.Seats.{may_work, main_seat, seat_after, seat_by}

@@ -9,7 +9,8 @@ use Rattle.jt_base.specs.declared.value.Value.{Value}
 use Rattle.jt_base.specs.Coming.{op_of}
 use Rattle.jt_base.specs.Jobs.{Held}
 use Rattle.jt_base.specs.Names as names
-use Rattle.jt_laws.specs.Entries.{shard, shard_of_object, In}
+use Rattle.jt_base.specs.Objects.{shard_of_object}
+use Rattle.jt_laws.specs.Entries.{shard, In}
 use Rattle.jt_laws.specs.Lines.{is_main_end}
 use Rattle.jt_laws.specs.Seats.{may_work}
 use Rattle.jt_laws.specs.Histories.{World}

@@ -14,15 +14,12 @@ ghost use Rattle.jt_machine.specs.Turns.{Asks, Replied, Turns, Serves, Followed,
 use crate::run::End;
 use crate::setting::Setting;
 use crate::turn::{Follows, Turn, what_follows};
-use jt_base::{Entry, Job, Op, OutOfMemory, Path, Picks, Pool};
-use jt_histories::{cut_at_main_end, merge, shard_of};
+use jt_base::{Entry, Job, Object, Op, OutOfMemory, Path, Picks, Pool, SHARDS};
+use jt_histories::{cut_at_main_end, merge};
 use jt_shard::{Applied, Shard};
 use jt_step::{Advance, Start, TaskRun};
 use sqlite_items::{Boxed, Items};
 use std::alloc::Global;
-
-/// The number of shards.
-const SHARDS: u32 = 16;
 
 /// The shards with the jobs that wait, and the jobs that don't.
 #[derive(Drop)]
@@ -161,7 +158,7 @@ impl<'p> Machine<'p> {
         ensures { IfOk result (λ turn. Serves (run_of setting.now) setting.now.seeds self.old.shards.items self.old.ready job.entry turn self.new.shards.items self.new.ready) }
     {
         let mut job = job;
-        let k = shard_of(job.path(), &op) as usize;
+        let k = Object::of(job.path(), &op).shard() as usize;
         self.shards[k].reserve(&mut job, &op)?;
         match self.shards[k].apply(&mut job, op, 0) {
             Applied::Done(_) => self.follow(setting, k, job, follows),

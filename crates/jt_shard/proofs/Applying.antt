@@ -5,7 +5,8 @@ use Rattle.jt_base.specs.declared.operation.Reply.{Reply}
 use Rattle.jt_base.specs.declared.entry.Entry.{Entry}
 use Rattle.jt_base.specs.declared.entry.Ask.TheVariants.{Done}
 use Rattle.jt_base.specs.Jobs.{Held, last_note}
-use Rattle.jt_laws.specs.Entries.{Object, of_object}
+use Rattle.jt_base.specs.declared.object.Object.{Object}
+use Rattle.jt_laws.specs.Entries.{of_object}
 use Rattle.jt_laws.specs.Objects.{reply_after, answer_of}
 use Rattle.jt_laws.specs.Seats.{seat_after}
 use Rattle.jt_histories.specs.Jobs.{last_entry, noted_job}

@@ -10,7 +10,8 @@ use Rattle.jt_base.specs.declared.operation.Reply.TheVariants as reply
 use Rattle.jt_base.specs.declared.entry.Entry.{Entry}
 use Rattle.jt_base.specs.declared.entry.Ask.{Ask}
 use Rattle.jt_base.specs.declared.entry.Ask.TheVariants.{Done, NotYet}
-use Rattle.jt_laws.specs.Entries.{Task, object_of}
+use Rattle.jt_base.specs.declared.object.Object.TheVariants.{Task}
+use Rattle.jt_base.specs.Objects.{object_of}
 use Rattle.jt_laws.specs.Tasks.{ok_if, is_main}
 use Rattle.jt_laws.specs.Objects.{reply_after, answer_of, Asked, MadeBy}
 use Rattle.jt_laws.proofs.Paths.{same_of}

@@ -1,4 +1,5 @@
 pub mod Asked
+pub mod Refusals
 pub mod RunLaws
 pub mod Split
 pub mod Posted
@@ -6,6 +7,7 @@ pub mod Sound
 pub mod Lines
 pub mod Stamps
 pub mod Room
+pub mod Served
 pub mod States
 pub mod Waking
 pub mod Applying

@@ -11,7 +11,9 @@ use Rattle.jt_base.specs.declared.operation.Op.{Op}
 use Rattle.jt_base.specs.declared.operation.Reply.{Reply}
 use Rattle.jt_base.specs.declared.entry.Entry.{Entry}
 use Rattle.jt_base.specs.Jobs.{Held}
-use Rattle.jt_laws.specs.Entries.{Object, Task, same_object, same_path}
+use Rattle.jt_base.specs.declared.object.Object.{Object}
+use Rattle.jt_base.specs.declared.object.Object.TheVariants.{Task}
+use Rattle.jt_laws.specs.Entries.{same_object, same_path}
 use Rattle.jt_laws.proofs.Paths.{same_equal}
 use Rattle.jt_histories.proofs.Lists.{same_object_refl}
 use Rattle.jt_shard.specs.declared.post.Post.{Post}

@@ -1,6 +1,6 @@
 -- What the calls on posts leave.
 use Rattle.std.proofs.Common.{◌≡◌, ℕ, suc, ◌+◌, ◌<◌, List, [], ◌∷◌, ◌++◌, Option, Some, None, true, false, refl, sym, ap, ◌∙◌, subst, cond, length, take, drop, get_or, arith}
-use Rattle.std.specs.Prelude.{IfSome, IsSome, OnSome, nat_eq}
+use Rattle.std.specs.Prelude.{nat_eq}
 use Rattle.std.specs.List.{All, HoldsAt, remove}
 use Rattle.std.specs.BTreeMap.{insert_entry}
 use Rattle.std.specs.Ordering.{nat_cmp, is_eq, match_ordering}
@@ -13,7 +13,7 @@ use Rattle.jt_conditions.specs.declared.completion.Completion.{Completion}
 use Rattle.jt_conditions.specs.Completions.{completion_left_by}
 use Rattle.jt_shard.specs.declared.post.Post.{Post}
 use Rattle.jt_shard.specs.Asking.{Allows, Refuses}
-use Rattle.jt_shard.specs.Posts.{post_at, with_post, line_of, waiting_in, AreInOrder, GrownPost, Grown, LeavesPost, LeavesPosts}
+use Rattle.jt_shard.specs.Posts.{post_at, with_post, line_of, waiting_in, AreInOrder, GrownPost, Grown, Leaves, LeavesPost, LeavesPosts}
 use Rattle.jt_shard.proofs.Split.{tied, tied_same, by_test, None≢Some, split, waits_round, with_order, at_other}
 
 -- a task without entries
@@ -43,10 +43,9 @@ module _ {J : Type 0} where
   )
 
   -- the job at a place leaves
-  pub left_post : (before : Post J) (i : ℕ) (result : Option (J × Op)) (after : Post J) → i < length before.waiting.items → All (λ w. Refuses before.completion w.1) (take i before.waiting.items) → HoldsAt (λ (w : J × Op). Allows before.completion w.1) before.waiting.items i
-      → IsSome result → IfSome result (λ y. y ≡ get_or before.waiting.items i y) → OnSome result (after.waiting.items ≡ remove before.waiting.items i) → after.completion ≡ before.completion → LeavesPost before result after
-  left_post before i None after l r h s v m c = absurd (cc)
-  left_post before i (Some w) after l r h s v m c = let n : suc i ≡ i + 1 = omega arith in record {
+  pub left_post : (before : Post J) (i : ℕ) (w : J × Op) (after : Post J) → i < length before.waiting.items → All (λ v. Refuses before.completion v.1) (take i before.waiting.items) → HoldsAt (λ (v : J × Op). Allows before.completion v.1) before.waiting.items i
+      → w ≡ get_or before.waiting.items i w → after.waiting.items ≡ remove before.waiting.items i → after.completion ≡ before.completion → Leaves before w after
+  left_post before i w after l r h v m c = let n : suc i ≡ i + 1 = omega arith in record {
     front = take i before.waiting.items;
     back = drop (i + 1) before.waiting.items;
     had = sym (take-append-drop i before.waiting.items)

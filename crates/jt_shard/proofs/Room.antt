@@ -1,31 +1,21 @@
 -- Memory that is reserved, and the count of the waiting jobs.
 use Rattle.std.proofs.Common.{◌≡◌, ℕ, ◌+◌, ◌-◌, ◌<◌, ◌≤◌, List, ◌∷◌, Option, Some, None, refl, sym, ap, ◌∙◌, subst, arith, length}
-use Rattle.std.specs.Prelude.{Vec, vec_len, option_map}
+use Rattle.std.specs.Prelude.{Vec, vec_len, IsSome}
 use Rattle.std.specs.Global.{Global}
 use Rattle.std.specs.Vec.{vec_capacity}
 use Rattle.std.specs.List.Sorted.{IsPermutation}
 use Rattle.std.proofs.lemmas.List.Sorted.{length_permutation}
 use Rattle.jt_base.specs.declared.operation.Op.{Op}
 use Rattle.jt_base.specs.declared.entry.Entry.{Entry}
-use Rattle.jt_laws.specs.Entries.{Object}
-use Rattle.jt_shard.specs.declared.place.Place.{Place}
-use Rattle.jt_shard.specs.declared.place.Place.TheVariants as place
+use Rattle.jt_base.specs.declared.object.Object.{Object}
+use Rattle.jt_base.specs.declared.object.Object.TheVariants.{Printer, Task, Named}
 use Rattle.jt_shard.specs.declared.post.Post.{Post}
-use Rattle.jt_shard.specs.Posts.{object_at, post_at, waiting_in, HasLine, HasPlace, GrownPost, Grown, HasMemory, HasMemoryIf, IsCounted}
-
--- a place by its object
-pub one_place : (a b : Place) → object_at a ≡ object_at b → a ≡ b
-one_place place.Printer place.Printer e = refl
-one_place place.Printer (place.Completion q) e = absurd (cc)
-one_place (place.Completion p) place.Printer e = absurd (cc)
-one_place (place.Completion p) (place.Completion q) e = let s : p ≡ q = cc in ap place.Completion s
+use Rattle.jt_shard.specs.declared.spare.Spare.{Spare}
+use Rattle.jt_shard.specs.Posts.{post_at, waiting_in, HasLine, HasPlace, GrownPost, Grown, HasMemory, HasMemoryIf, IsCounted}
 
 module _ {J : Type 0} where
-  pub memory_at : (log : Vec Entry Global) (jobs : Vec J Global) (posts : List (List ℕ × Post J)) (r : Option Place) (o : Object) (at : Place) → HasMemoryIf log jobs posts r → option_map object_at r ≡ Some o → object_at at ≡ o → HasMemory log jobs posts at
-  memory_at log jobs posts None o at m e a = absurd (cc)
-  memory_at log jobs posts (Some b) o at m e a =
-      let s : object_at b ≡ object_at at = let t : object_at b ≡ o = cc in t ∙ sym a in
-      subst (HasMemory log jobs posts) (one_place b at s) m
+  pub memory_at : (log : Vec Entry Global) (jobs : Vec J Global) (spare : Option (Spare (J × Op))) (posts : List (List ℕ × Post J)) (r : Option Object) (o : Object) → HasMemoryIf log jobs spare posts r → r ≡ Some o → HasMemory log jobs spare posts o
+  memory_at log jobs spare posts r o m e = subst (HasMemoryIf log jobs spare posts) e m
 
   pub counted_more : (posts more : List (List ℕ × Post J)) (n : ℕ) (jobs : Vec J Global) (w : J × Op) → IsCounted posts n jobs → length (waiting_in posts) < vec_capacity jobs → IsPermutation (w ∷ waiting_in posts) (waiting_in more) → IsCounted more (n + 1) jobs
   counted_more posts more n jobs w c l p =
@@ -52,15 +42,17 @@ module _ {J : Type 0} where
       by_post None e p = absurd p
       by_post (Some b) e p = (b, e, let l = h.2 in omega (arith, p.2, p.3, l))
 
-  has_place : (posts more : List (List ℕ × Post J)) (at : Place) → Grown posts more → HasPlace posts at → HasPlace more at
-  has_place posts more place.Printer g h = tt
-  has_place posts more (place.Completion path) g h = has_line posts more path g h
+  has_place : (posts more : List (List ℕ × Post J)) (at : Object) → Grown posts more → HasPlace posts at → HasPlace more at
+  has_place posts more Printer g h = tt
+  has_place posts more (Task path) g h = has_line posts more path g h
+  has_place posts more (Named name) g h = h
 
-  pub memory_kept : (log log' : Vec Entry Global) (jobs jobs' : Vec J Global) (posts more : List (List ℕ × Post J)) (r : Option Place) → Grown posts more → vec_len log' ≡ vec_len log → vec_capacity log ≤ vec_capacity log' → vec_capacity jobs ≤ vec_capacity jobs' → HasMemoryIf log jobs posts r → HasMemoryIf log' jobs' more r
-  memory_kept log log' jobs jobs' posts more None g l k m h = tt
-  memory_kept log log' jobs jobs' posts more (Some at) g l k m h = record {
+  pub memory_kept : (log log' : Vec Entry Global) (jobs jobs' : Vec J Global) (spare spare' : Option (Spare (J × Op))) (posts more : List (List ℕ × Post J)) (r : Option Object) → Grown posts more → vec_len log' ≡ vec_len log → vec_capacity log ≤ vec_capacity log' → vec_capacity jobs ≤ vec_capacity jobs' → (IsSome spare → IsSome spare') → HasMemoryIf log jobs spare posts r → HasMemoryIf log' jobs' spare' more r
+  memory_kept log log' jobs jobs' spare spare' posts more None g l k m s h = tt
+  memory_kept log log' jobs jobs' spare spare' posts more (Some at) g l k m s h = record {
     entry = omega (arith, h.entry);
     job = let e : length (waiting_in more) ≡ length (waiting_in posts) = ap length g.waiting in omega (arith, h.job, e);
+    spare = s h.spare;
     line = has_place posts more at g h.line;
   }
 
@@ -70,9 +62,10 @@ module _ {J : Type 0} where
       record { counted = c.counted ∙ sym e; none = i ∙ c.none; room = omega (arith, c.room, e) }
 
   -- room for an entry and for one more job
-  pub memory_made : (log : Vec Entry Global) (jobs : Vec J Global) (posts more : List (List ℕ × Post J)) (n : ℕ) (at : Place) → n ≡ length (waiting_in posts) → Grown posts more → vec_len log + 1 ≤ vec_capacity log → n + 1 ≤ vec_capacity jobs → HasPlace more at → HasMemory log jobs more at
-  memory_made log jobs posts more n at c g l k p = record {
+  pub memory_made : (log : Vec Entry Global) (jobs : Vec J Global) (spare : Option (Spare (J × Op))) (posts more : List (List ℕ × Post J)) (n : ℕ) (at : Object) → n ≡ length (waiting_in posts) → Grown posts more → vec_len log + 1 ≤ vec_capacity log → n + 1 ≤ vec_capacity jobs → IsSome spare → HasPlace more at → HasMemory log jobs spare more at
+  memory_made log jobs spare posts more n at c g l k s p = record {
     entry = omega arith;
     job = let e : length (waiting_in more) ≡ length (waiting_in posts) = ap length g.waiting in omega (arith, e);
+    spare = s;
     line = p;
   }

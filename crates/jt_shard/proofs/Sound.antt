@@ -11,19 +11,22 @@ use Rattle.jt_base.specs.declared.operation.Reply.TheVariants as reply
 use Rattle.jt_base.specs.declared.entry.Entry.{Entry}
 use Rattle.jt_base.specs.declared.entry.Ask.{Ask}
 use Rattle.jt_base.specs.Jobs.{Held}
-use Rattle.jt_laws.specs.Entries.{Object, Printer, Task, same_object, same_path, object_of, object, of_object, Each}
+use Rattle.jt_base.specs.declared.object.Object.{Object}
+use Rattle.jt_base.specs.declared.object.Object.TheVariants.{Printer, Task}
+use Rattle.jt_base.specs.Objects.{object_of}
+use Rattle.jt_laws.specs.Entries.{same_object, same_path, object, of_object, Each}
 use Rattle.jt_laws.specs.Objects.{reply_after, IsLawful, answer_of}
 use Rattle.jt_laws.proofs.Lawful.{lawful_push}
 use Rattle.jt_laws.proofs.Paths.{same_equal}
 use Rattle.jt_histories.proofs.Lists.{same_object_refl, same_object_true, filter_in, filter_push_yes, filter_push_no, each_from}
 use Rattle.jt_conditions.specs.declared.completion.Completion.{Completion}
 use Rattle.jt_conditions.specs.Completions.{completion_left_by}
-use Rattle.jt_shard.specs.declared.place.Place.{Place}
-use Rattle.jt_shard.specs.declared.place.Place.TheVariants as place
 use Rattle.jt_shard.specs.declared.post.Post.{Post}
 use Rattle.jt_shard.specs.Asking.{IsPast, Answers, Allows, Refuses}
+use Rattle.jt_shard.specs.Changing.{changes}
 use Rattle.jt_shard.specs.Shards.{object_for, reply_now, MustWait}
-use Rattle.jt_shard.specs.Posts.{object_at, touched_by, post_at, with_post, line_of, waiting_in, GrownPost, Grown, Leaves, Joins, IsPost, IsPostIf, ArePosts}
+use Rattle.jt_shard.specs.Posts.{touched_by, post_at, with_post, line_of, waiting_in, GrownPost, Grown, Leaves, Joins, IsPost, IsPostIf, ArePosts}
+use Rattle.jt_shard.proofs.Refusals.{keeps_refusals}
 use Rattle.jt_shard.proofs.Split.{tied, tied_same, tied_itself, apart, by_test, None≢Some, All-left, All-right, all_waiting, waiting_all, each_entry, found_entry, with_order, at_other}
 
 matched : {A B C D : Type 0} (b : Bool) → MatchBool b A B → (A → C) → (B → D) → MatchBool b C D
@@ -102,60 +105,71 @@ module _ {J S : Type 0} (told : J → Held S) where
     each = λ q. elsewhere log e None q (post_at posts q) (ap (λ o. same_object o (Task q)) is) (a.each q);
   }
 
-  -- an entry of a task
-  pub entered : (log : List Entry) (posts : List (List ℕ × Post J)) (path : List ℕ) (before after : Post J) (e : Entry) → post_at posts path ≡ Some before → object e ≡ Task path → reply_after (of_object (object e) log) e.task e.op ≡ Some e.reply
-      → after.completion ≡ completion_left_by path (of_object (Task path) log ++ e ∷ []) → after.waiting ≡ before.waiting → ArePosts told log None posts → ArePosts told (log ++ e ∷ []) (Some path) (with_post posts path after)
-  entered log posts path before after e there is r c w a = record {
-    ordered = with_order posts path after a.ordered;
-    lawful = λ q. lawful_more log e q (a.lawful q) r;
-    each = λ q. subst (IsPostIf told (log ++ e ∷ []) (Some path) q) (sym (at_other posts path before after there q))
-        (by_test (tied path q)
-        (λ t. let p = tied_same path q t in
-        subst (IsPostIf told (log ++ e ∷ []) (Some path) q) (ap (λ b. cond b (Some after) (post_at posts q)) (sym t))
-        (subst (λ x. IsPostIf told (log ++ e ∷ []) (Some path) x (Some after)) p
-        (record {
-          completion = c ∙ ap (completion_left_by path) (sym (own_here (Task path) log e is));
-          here = subst (λ v. All (λ x. object_for told x.0 x.1 ≡ Task path) v.items) (sym w) (post_is log None posts path before a there).here;
-          settled = λ n. absurd (n refl);
-        })))
-        (λ f. subst (IsPostIf told (log ++ e ∷ []) (Some path) q) (ap (λ b. cond b (Some after) (post_at posts q)) (sym f))
-        (elsewhere log e (Some path) q (post_at posts q) (by_test (same_path path q) (λ y. absurd (false≢true (sym f ∙ ap (tied path) (sym (same_equal path q y)) ∙ tied_itself path))) (λ n. ap (λ o. same_object o (Task q)) is ∙ n)) (a.each q))));
+  -- a job here must wait after an entry that changes nothing
+  still_refused : (log : List Entry) (e : Entry) (path : List ℕ) (w : J × Op) → object e ≡ Task path → changes e.op ≡ false → reply_after (of_object (Task path) log) e.task e.op ≡ Some e.reply → object_for told w.0 w.1 ≡ Task path → MustWait told log w → MustWait told (log ++ e ∷ []) w
+  still_refused log e path w is n r o m =
+      ap (λ x. reply_after (of_object x (log ++ e ∷ [])) (told w.0).path w.1) o ∙ ap (λ l. reply_after l (told w.0).path w.1) (own_here (Task path) log e is)
+      ∙ keeps_refusals e.op n (of_object (Task path) log) e (told w.0).path w.1 refl r (o ∙ sym is) (ap (λ x. reply_after (of_object x log) (told w.0).path w.1) (sym o) ∙ m)
+
+  -- an entry of a task touches those who wait for it where it changes the task
+  entered_here : (log : List Entry) (path : List ℕ) (before after : Post J) (e : Entry) → IsPost told log None path before → object e ≡ Task path → reply_after (of_object (Task path) log) e.task e.op ≡ Some e.reply
+      → after.completion ≡ completion_left_by path (of_object (Task path) log ++ e ∷ []) → after.waiting ≡ before.waiting → IsPost told (log ++ e ∷ []) (touched_by (Task path) e.op) path after
+  entered_here log path before after e p is r c w = record {
+    completion = c ∙ ap (completion_left_by path) (sym (own_here (Task path) log e is));
+    here = subst (λ v. All (λ x. object_for told x.0 x.1 ≡ Task path) v.items) (sym w) p.here;
+    settled = λ n. subst (λ v. All (MustWait told (log ++ e ∷ [])) v.items) (sym w)
+        (by_test (changes e.op)
+        (λ y. absurd (n (ap (λ b. cond b (Some path) None) y)))
+        (λ f. λ k d l. still_refused log e path (get_or before.waiting.items k d) is f r (p.here k d l) (p.settled (None≢Some path) k d l)));
   }
 
-  -- a place that is asked answers by its law, and has its posts after the entry
-  pub answer_at : (log : List Entry) (posts : List (List ℕ × Post J)) (at : Place) (path task : List ℕ) (op : Op) (before : Post J) (result : Ask) (after : Option Completion) → at ≡ place.Completion path → Some before ≡ post_at posts path
-      → ((path task : List ℕ) → object_of task op ≡ Task path → Answers path task op before.completion result after) → object_of task op ≡ object_at at → ArePosts told log None posts → result ≡ answer_of (reply_after (of_object (object_at at) log) task op)
+  pub entered : (log : List Entry) (posts : List (List ℕ × Post J)) (path : List ℕ) (before after : Post J) (e : Entry) → post_at posts path ≡ Some before → object e ≡ Task path → reply_after (of_object (Task path) log) e.task e.op ≡ Some e.reply
+      → after.completion ≡ completion_left_by path (of_object (Task path) log ++ e ∷ []) → after.waiting ≡ before.waiting → ArePosts told log None posts → ArePosts told (log ++ e ∷ []) (touched_by (Task path) e.op) (with_post posts path after)
+  entered log posts path before after e there is r c w a =
+      let t : Option (List ℕ) = touched_by (Task path) e.op in
+      record {
+        ordered = with_order posts path after a.ordered;
+        lawful = λ q. lawful_more log e q (a.lawful q) (ap (λ x. reply_after (of_object x log) e.task e.op) is ∙ r);
+        each = λ q. subst (IsPostIf told (log ++ e ∷ []) t q) (sym (at_other posts path before after there q))
+            (by_test (tied path q)
+            (λ y. subst (IsPostIf told (log ++ e ∷ []) t q) (ap (λ b. cond b (Some after) (post_at posts q)) (sym y))
+            (subst (λ x. IsPostIf told (log ++ e ∷ []) t x (Some after)) (tied_same path q y)
+            (entered_here log path before after e (post_is log None posts path before a there) is r c w)))
+            (λ f. subst (IsPostIf told (log ++ e ∷ []) t q) (ap (λ b. cond b (Some after) (post_at posts q)) (sym f))
+            (elsewhere log e t q (post_at posts q) (by_test (same_path path q) (λ y. absurd (false≢true (sym f ∙ ap (tied path) (sym (same_equal path q y)) ∙ tied_itself path))) (λ n. ap (λ o. same_object o (Task q)) is ∙ n)) (a.each q))));
+      }
+
+  -- an object that is asked answers by its law, and has its posts after the entry
+  pub answer_at : (log : List Entry) (posts : List (List ℕ × Post J)) (at : Object) (path task : List ℕ) (op : Op) (before : Post J) (result : Ask) (after : Option Completion) → at ≡ Task path → Some before ≡ post_at posts path
+      → ((path task : List ℕ) → object_of task op ≡ Task path → Answers path task op before.completion result after) → object_of task op ≡ at → ArePosts told log None posts → result ≡ answer_of (reply_after (of_object at log) task op)
   answer_at log posts at path task op before result after is there ans o a =
-      let s : object_at at ≡ Task path = ap object_at is in
-      (ans path task (o ∙ s)).answers (of_object (Task path) log) (past_of log None posts path before a (sym there))
-      ∙ ap (λ x. answer_of (reply_after (of_object x log) task op)) (sym s)
+      (ans path task (o ∙ is)).answers (of_object (Task path) log) (past_of log None posts path before a (sym there))
+      ∙ ap (λ x. answer_of (reply_after (of_object x log) task op)) (sym is)
 
-  pub moves_at : (log : List Entry) (posts : List (List ℕ × Post J)) (at : Place) (path : List ℕ) (op : Op) (before after : Post J) (result : Ask) (more : List (List ℕ × Post J)) → at ≡ place.Completion path → Some before ≡ post_at posts path
+  pub moves_at : (log : List Entry) (posts : List (List ℕ × Post J)) (at : Object) (path : List ℕ) (op : Op) (before after : Post J) (result : Ask) (more : List (List ℕ × Post J)) → at ≡ Task path → Some before ≡ post_at posts path
       → ((path task : List ℕ) → object_of task op ≡ Task path → Answers path task op before.completion result after.completion) → after.waiting ≡ before.waiting → more ≡ with_post posts path after
-      → (e : Entry) → e.op ≡ op → object e ≡ object_at at → reply_after (of_object (object_at at) log) e.task e.op ≡ Some e.reply → ArePosts told log None posts → ArePosts told (log ++ e ∷ []) (touched_by at) more
+      → (e : Entry) → e.op ≡ op → object e ≡ at → reply_after (of_object at log) e.task e.op ≡ Some e.reply → ArePosts told log None posts → ArePosts told (log ++ e ∷ []) (touched_by at op) more
   moves_at log posts at path op before after result more is there ans w m e by oe r a =
-      let s : object_at at ≡ Task path = ap object_at is in
-      let o : object_of e.task op ≡ Task path = ap (object_of e.task) (sym by) ∙ oe ∙ s in
-      let own : reply_after (of_object (Task path) log) e.task op ≡ Some e.reply = ap (λ x. reply_after (of_object (Task path) log) e.task x) (sym by) ∙ ap (λ x. reply_after (of_object x log) e.task e.op) (sym s) ∙ r in
+      let o : object_of e.task op ≡ Task path = ap (object_of e.task) (sym by) ∙ oe ∙ is in
+      let own : reply_after (of_object (Task path) log) e.task op ≡ Some e.reply = ap (λ x. reply_after (of_object (Task path) log) e.task x) (sym by) ∙ ap (λ x. reply_after (of_object x log) e.task e.op) (sym is) ∙ r in
       let c = (ans path e.task o).moves (of_object (Task path) log) e (past_of log None posts path before a (sym there)) refl by own in
-      subst (λ t. ArePosts told (log ++ e ∷ []) t more) (sym (ap touched_by is))
-      (subst (ArePosts told (log ++ e ∷ []) (Some path)) (sym m)
-      (entered log posts path before after e (sym there) (oe ∙ s) (ap (λ x. reply_after (of_object x log) e.task e.op) oe ∙ r) c w a))
+      subst (λ t. ArePosts told (log ++ e ∷ []) t more) (ap (λ x. touched_by x e.op) (sym is) ∙ ap (touched_by at) by)
+      (subst (ArePosts told (log ++ e ∷ []) (touched_by (Task path) e.op)) (sym m)
+      (entered log posts path before after e (sym there) (oe ∙ is) (ap (λ x. reply_after (of_object x log) e.task e.op) (sym is) ∙ r) c w a))
 
-  pub printed_at : (log : List Entry) (posts : List (List ℕ × Post J)) (at : Place) → at ≡ place.Printer → (e : Entry) → object e ≡ object_at at → reply_after (of_object (object_at at) log) e.task e.op ≡ Some e.reply → ArePosts told log None posts → ArePosts told (log ++ e ∷ []) (touched_by at) posts
-  printed_at log posts at is e o r a =
-      subst (λ t. ArePosts told (log ++ e ∷ []) t posts) (sym (ap touched_by is))
-      (printed log posts e (o ∙ ap object_at is) (ap (λ x. reply_after (of_object x log) e.task e.op) o ∙ r) a)
+  pub printed_at : (log : List Entry) (posts : List (List ℕ × Post J)) (at : Object) (op : Op) → at ≡ Printer → (e : Entry) → object e ≡ at → reply_after (of_object at log) e.task e.op ≡ Some e.reply → ArePosts told log None posts → ArePosts told (log ++ e ∷ []) (touched_by at op) posts
+  printed_at log posts at op is e o r a =
+      subst (λ t. ArePosts told (log ++ e ∷ []) t posts) (ap (λ x. touched_by x op) (sym is))
+      (printed log posts e (o ∙ is) (ap (λ x. reply_after (of_object x log) e.task e.op) o ∙ r) a)
 
-  pub allows_at : (log : List Entry) (posts : List (List ℕ × Post J)) (at : Place) (path task : List ℕ) (op : Op) (before : Post J) (result : Bool) → at ≡ place.Completion path → Some before ≡ post_at posts path
-      → MatchBool result (Allows before.completion op) (Refuses before.completion op) → object_of task op ≡ object_at at → ArePosts told log None posts
-      → MatchBool result ((r : Reply) × (reply_after (of_object (object_at at) log) task op ≡ Some r)) (reply_after (of_object (object_at at) log) task op ≡ None)
+  pub allows_at : (log : List Entry) (posts : List (List ℕ × Post J)) (at : Object) (path task : List ℕ) (op : Op) (before : Post J) (result : Bool) → at ≡ Task path → Some before ≡ post_at posts path
+      → MatchBool result (Allows before.completion op) (Refuses before.completion op) → object_of task op ≡ at → ArePosts told log None posts
+      → MatchBool result ((r : Reply) × (reply_after (of_object at log) task op ≡ Some r)) (reply_after (of_object at log) task op ≡ None)
   allows_at log posts at path task op before result is there m o a =
-      let s : object_at at ≡ Task path = ap object_at is in
       let p = past_of log None posts path before a (sym there) in
       matched result m
-      (λ y. let r = y path task (of_object (Task path) log) (o ∙ s) p in (r.0, ap (λ x. reply_after (of_object x log) task op) s ∙ r.1))
-      (λ n. ap (λ x. reply_after (of_object x log) task op) s ∙ n path task (of_object (Task path) log) (o ∙ s) p)
+      (λ y. let r = y path task (of_object (Task path) log) (o ∙ is) p in (r.0, ap (λ x. reply_after (of_object x log) task op) is ∙ r.1))
+      (λ n. ap (λ x. reply_after (of_object x log) task op) is ∙ n path task (of_object (Task path) log) (o ∙ is) p)
 
   -- what holds of the posts when no job is allowed
   with_settled : (log : List Entry) (t : Option (List ℕ)) (q : List ℕ) (o : Option (Post J)) → IsPostIf told log t q o → ((post : Post J) → o ≡ Some post → All (MustWait told log) post.waiting.items) → IsPostIf told log None q o

@@ -5,8 +5,9 @@ use Rattle.jt_base.specs.declared.operation.Reply.{Reply}
 use Rattle.jt_base.specs.declared.entry.Entry.{Entry}
 use Rattle.jt_base.specs.declared.entry.Ask.{Ask}
 use Rattle.jt_base.specs.declared.entry.Ask.TheVariants.{NotYet}
-use Rattle.jt_laws.specs.Entries.{object_of, object, Each}
-use Rattle.jt_laws.specs.Entries.Object.{Task}
+use Rattle.jt_base.specs.Objects.{object_of}
+use Rattle.jt_laws.specs.Entries.{object, Each}
+use Rattle.jt_base.specs.declared.object.Object.TheVariants.{Task}
 use Rattle.jt_laws.specs.Objects.{reply_after, IsLawful, answer_of}
 use Rattle.jt_conditions.specs.declared.completion.Completion.{Completion}
 use Rattle.jt_conditions.specs.Completions.{completion_left_by}

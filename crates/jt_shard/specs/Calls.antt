@@ -5,7 +5,8 @@ use Rattle.std.specs.List.Sorted.{IsPermutation}
 use Rattle.jt_base.specs.declared.operation.Op.{Op}
 use Rattle.jt_base.specs.declared.operation.Reply.{Reply}
 use Rattle.jt_base.specs.Jobs.{Held}
-use Rattle.jt_laws.specs.Entries.{Object, same_object}
+use Rattle.jt_base.specs.declared.object.Object.{Object}
+use Rattle.jt_laws.specs.Entries.{same_object}
 use Rattle.jt_laws.specs.Seats.{seat_after}
 use Rattle.jt_histories.specs.Jobs.{noted_job}
 use Rattle.jt_shard.specs.declared.applied.Applied.{Applied}

@@ -2,4 +2,6 @@ pub mod Serving
 pub mod Shards
 pub mod Posts
 pub mod Asking
+pub mod Changing
 pub mod Calls
+pub mod Placed

@@ -1,5 +1,5 @@
 -- How a shard keeps its objects: a post for each task whose completion was asked.
-use Rattle.std.specs.Prelude.{◌≡◌, ℕ, ◌<◌, ◌≤◌, List, [], ◌∷◌, ◌++◌, Option, Some, None, length, Vec, vec_len}
+use Rattle.std.specs.Prelude.{◌≡◌, ℕ, ◌<◌, ◌≤◌, List, [], ◌∷◌, ◌++◌, Option, Some, None, if◌then◌else◌, IsSome, length, Vec, vec_len}
 use Rattle.std.specs.List.{All, flat_map}
 use Rattle.std.specs.List.Sorted.{IsStrictlySortedBy}
 use Rattle.std.specs.Map.{lookup, set_value, keys_of}
@@ -12,23 +12,28 @@ use Rattle.std.specs.VecDeque.{deque_len, deque_capacity}
 use Rattle.jt_base.specs.declared.operation.Op.{Op}
 use Rattle.jt_base.specs.declared.entry.Entry.{Entry}
 use Rattle.jt_base.specs.Jobs.{Held}
-use Rattle.jt_laws.specs.Entries.{Object, Printer, Task, of_object}
+use Rattle.jt_base.specs.declared.object.Object.{Object}
+use Rattle.jt_base.specs.declared.object.Object.TheVariants.{Printer, Task, Named}
+use Rattle.jt_laws.specs.Entries.{of_object}
 use Rattle.jt_laws.specs.Objects.{IsLawful}
 use Rattle.jt_conditions.specs.Completions.{completion_left_by}
-use Rattle.jt_shard.specs.declared.place.Place.{Place}
-use Rattle.jt_shard.specs.declared.place.Place.TheVariants as place
 use Rattle.jt_shard.specs.declared.post.Post.{Post}
+use Rattle.jt_shard.specs.declared.spare.Spare.{Spare}
 use Rattle.jt_shard.specs.Asking.{Allows, Refuses}
+use Rattle.jt_shard.specs.Changing.{changes}
 use Rattle.jt_shard.specs.Shards.{object_for, MustWait}
 
-abbrev pub object_at : Place → Object
-object_at place.Printer = Printer
-object_at (place.Completion path) = Task path
+-- the objects that are served: the printer and the tasks
+abbrev pub IsServed : Object → Type 0
+IsServed Printer = Unit {0}
+IsServed (Task path) = Unit {0}
+IsServed (Named name) = ⊥
 
--- the task whose waiting jobs may be allowed after an entry there
-abbrev pub touched_by : Place → Option (List ℕ)
-touched_by place.Printer = None
-touched_by (place.Completion path) = Some path
+-- the task whose waiting jobs may be allowed after an entry of this operation on this object
+abbrev pub touched_by : Object → Op → Option (List ℕ)
+touched_by Printer op = None
+touched_by (Task path) op = if changes op then Some path else None
+touched_by (Named name) op = None
 
 module _ {J : Type 0} where
   -- a task's post
@@ -54,9 +59,11 @@ module _ {J : Type 0} where
   abbrev pub HasLine : List (List ℕ × Post J) → List ℕ → Type 0
   HasLine posts path = (post : Post J) × (post_at posts path ≡ Some post) × (deque_len post.waiting < deque_capacity post.waiting)
 
-  abbrev pub HasPlace : List (List ℕ × Post J) → Place → Type 0
-  HasPlace posts place.Printer = Unit {0}
-  HasPlace posts (place.Completion path) = HasLine posts path
+  -- nobody waits for the printer
+  abbrev pub HasPlace : List (List ℕ × Post J) → Object → Type 0
+  HasPlace posts Printer = Unit {0}
+  HasPlace posts (Task path) = HasLine posts path
+  HasPlace posts (Named name) = ⊥
 
   -- a post that was made or has more memory than before
   abbrev pub GrownPost : List ℕ → Option (Post J) → Option (Post J) → Type 0
@@ -100,14 +107,15 @@ module _ {J : Type 0} where
     pub is : joined ≡ with_post posts path after
 
   -- memory is reserved for an entry and for a waiting job
-  pub record HasMemory (log : Vec Entry Global) (jobs : Vec J Global) (posts : List (List ℕ × Post J)) (at : Place) : Type 0 where
+  pub record HasMemory (log : Vec Entry Global) (jobs : Vec J Global) (room : Option (Spare (J × Op))) (posts : List (List ℕ × Post J)) (object : Object) : Type 0 where
     pub entry : vec_len log < vec_capacity log
     pub job : length (waiting_in posts) < vec_capacity jobs
-    pub line : HasPlace posts at
+    pub spare : IsSome room
+    pub line : HasPlace posts object
 
-  abbrev pub HasMemoryIf : Vec Entry Global → Vec J Global → List (List ℕ × Post J) → Option Place → Type 0
-  HasMemoryIf log jobs posts None = Unit {0}
-  HasMemoryIf log jobs posts (Some at) = HasMemory log jobs posts at
+  abbrev pub HasMemoryIf : Vec Entry Global → Vec J Global → Option (Spare (J × Op)) → List (List ℕ × Post J) → Option Object → Type 0
+  HasMemoryIf log jobs spare posts None = Unit {0}
+  HasMemoryIf log jobs spare posts (Some object) = HasMemory log jobs spare posts object
 
   -- the waiting jobs are counted, and there is memory to give them all back
   pub record IsCounted (posts : List (List ℕ × Post J)) (count : ℕ) (jobs : Vec J Global) : Type 0 where

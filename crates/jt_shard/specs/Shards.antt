@@ -5,7 +5,9 @@ use Rattle.jt_base.specs.declared.entry.Entry.{Entry}
 use Rattle.jt_base.specs.declared.operation.Op.{Op}
 use Rattle.jt_base.specs.declared.operation.Reply.{Reply}
 use Rattle.jt_base.specs.Jobs.{Held, last_note}
-use Rattle.jt_laws.specs.Entries.{Object, object_of, same_object, of_object}
+use Rattle.jt_base.specs.declared.object.Object.{Object}
+use Rattle.jt_base.specs.Objects.{object_of}
+use Rattle.jt_laws.specs.Entries.{same_object, of_object}
 use Rattle.jt_laws.specs.Objects.{reply_after}
 use Rattle.jt_histories.specs.Jobs.{last_entry}
 

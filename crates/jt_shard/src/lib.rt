@@ -3,13 +3,15 @@
 #![tactic(auto)]
 
 mod applied;
+mod boxed;
+mod changing;
 mod laws;
 mod line;
 mod noting;
-mod place;
 mod post;
 mod posts;
 mod shard;
+mod spare;
 
 pub use applied::Applied;
 pub use laws::job_laws;

@@ -2,10 +2,12 @@
 
 ghost use Rattle.std.specs.Prelude.{◌≡◌, ◌<◌, ℕ, List, length, take, IfSome, IfNone, MatchBool};
 ghost use Rattle.std.specs.List.{All, HoldsAt};
-ghost use Rattle.jt_laws.specs.Entries.{Object, object_of};
-ghost use Rattle.jt_laws.specs.Entries.Object.{Task};
+ghost use Rattle.jt_base.specs.declared.object.Object.{Object};
+ghost use Rattle.jt_base.specs.Objects.{object_of};
+ghost use Rattle.jt_base.specs.declared.object.Object.TheVariants.{Task};
 ghost use Rattle.jt_shard.specs.Asking.{Answers, Allows, Refuses};
 
+use crate::spare::Placed;
 use jt_base::{Ask, Op, Reply};
 use jt_conditions::Completion;
 use std::collections::VecDeque;
@@ -54,13 +56,13 @@ pub(crate) fn allows(completion: &Option<Completion>, op: &Op) -> bool
 /// The place of the first job in a line whose operation is allowed.
 pub(crate) fn first_allowed<J>(
     completion: &Option<Completion>,
-    waiting: &VecDeque<(J, Op)>,
+    waiting: &VecDeque<Placed<(J, Op)>>,
 ) -> Option<usize>
     ensures some { IfSome result (λ i. (i < length waiting.now.items) × (All (λ w. Refuses completion.now w.1) (take i waiting.now.items) × HoldsAt (λ w. Allows completion.now w.1) waiting.now.items i)) }
     ensures none { IfNone result (All (λ w. Refuses completion.now w.1) waiting.now.items) }
 {
     for i in 0..waiting.len() {
-        if allows(completion, &waiting[i].1) {
+        if allows(completion, &waiting[i].get().1) {
             return Some(i);
         }
     }

@@ -3,6 +3,7 @@
 ghost use Rattle.std.specs.Prelude.{◌≡◌, []};
 ghost use Rattle.jt_conditions.specs.Completions.{completion_left_by};
 
+use crate::spare::Placed;
 use jt_base::{Op, Path};
 use jt_conditions::Completion;
 use std::alloc::Global;
@@ -14,7 +15,7 @@ pub(crate) struct Post<J> {
     /// None before the task's Spawn.
     pub(crate) completion: Option<Completion>,
     /// The jobs with their operations, the one that waits longest first.
-    pub(crate) waiting: VecDeque<(J, Op)>,
+    pub(crate) waiting: VecDeque<Placed<(J, Op)>>,
 }
 
 impl<J> Post<J> {

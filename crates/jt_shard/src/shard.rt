@@ -1,16 +1,17 @@
 //! The objects of one shard, with their entries and the jobs that wait for them.
 
 ghost use Rattle.std.specs.Prelude.{◌≡◌, true, map, OnOk, OnErr};
-ghost use Rattle.jt_laws.specs.Entries.{shard_of_object};
+ghost use Rattle.jt_base.specs.Objects.{shard_of_object};
 ghost use Rattle.jt_shard.specs.Serving.{serves};
 ghost use Rattle.jt_shard.specs.Shards.{empty_shard, object_for, MustWait, IsSettled, HasRoom};
 ghost use Rattle.jt_shard.specs.Calls.{Applies, Parks, WakesNext};
 
 use crate::applied::Applied;
+use crate::changing::touched;
 use crate::noting::{note, stamp_after};
-use crate::place::Place;
 use crate::posts::{Posts, ask, is_allowed, join, leave, released, reserve_place};
-use jt_base::{Ask, Entry, Job, Op, OutOfMemory, Path};
+use crate::spare::{Spare, reserve_spare};
+use jt_base::{Ask, Entry, Job, Object, Op, OutOfMemory, Path};
 use std::alloc::Global;
 use std::collections::BTreeMap;
 use std::marker::Model;
@@ -28,23 +29,24 @@ pub struct Shard<J: Job> {
     /// The only task whose waiting jobs may be allowed.
     touched: Option<Path>,
     /// The object for whose next operation there is room.
-    reserved: Option<Place>,
+    reserved: Option<Object>,
     /// How many jobs wait.
     count: usize,
     /// Room in which all waiting jobs can be given back.
     jobs: Vec<J>,
+    /// Where the next job that waits is kept, with its operation.
+    spare: Option<Spare<(J, Op)>>,
 }
 
 impl<J: Job> Model for Shard<J> {
-    ghost use Rattle.std.specs.Prelude.{option_map};
     ghost use Rattle.jt_shard.specs.Shards.{ShardState};
-    ghost use Rattle.jt_shard.specs.Posts.{object_at, waiting_in, HasMemoryIf, IsCounted, ArePosts};
+    ghost use Rattle.jt_shard.specs.Posts.{waiting_in, HasMemoryIf, IsCounted, ArePosts};
 
     ghost Value = { ShardState J };
 
-    ghost view = { λ s. record { number = s.number; events = s.events; log = s.log.items; waiting = waiting_in s.posts.entries; reserved = option_map object_at s.reserved } };
+    ghost view = { λ s. record { number = s.number; events = s.events; log = s.log.items; waiting = waiting_in s.posts.entries; reserved = s.reserved } };
 
-    ghost invariant = { λ s. ArePosts J.told s.log.items s.touched s.posts.entries × (IsCounted s.posts.entries s.count s.jobs × HasMemoryIf s.log s.jobs s.posts.entries s.reserved) };
+    ghost invariant = { λ s. ArePosts J.told s.log.items s.touched s.posts.entries × (IsCounted s.posts.entries s.count s.jobs × HasMemoryIf s.log s.jobs s.spare s.posts.entries s.reserved) };
 }
 
 impl<J: Job> Shard<J> {
@@ -63,6 +65,7 @@ impl<J: Job> Shard<J> {
             reserved: None,
             count: 0,
             jobs: Vec::new(alloc),
+            spare: None,
         }
     }
 
@@ -85,14 +88,15 @@ impl<J: Job> Shard<J> {
         ensures run { J.run job.new ≡ J.run job.old }
     {
         job.reserve_note()?;
-        let place = Place::of(job.path(), op);
+        let object = Object::of(job.path(), op);
         let Some(count) = self.count.checked_add(1) else {
             return Err(OutOfMemory);
         };
         self.jobs.reserve(count)?;
         self.log.reserve(1)?;
-        reserve_place(self.alloc, &mut self.posts, &place)?;
-        self.reserved = Some(place);
+        reserve_spare(self.alloc, &mut self.spare)?;
+        reserve_place(self.alloc, &mut self.posts, &object)?;
+        self.reserved = Some(object);
         Ok(())
     }
 
@@ -108,18 +112,22 @@ impl<J: Job> Shard<J> {
         ensures applies { Applies J.told self.old job.old op worker result self.new job.new }
         ensures run { J.run job.new ≡ J.run job.old }
     {
-        let place = Place::of(job.path(), &op);
+        let Some(object) = &self.reserved else {
+            unreachable!();
+        };
         let Some(stamp) = stamp_after(job.last_stamp(), self.log.as_slice(), self.events) else {
-            if is_allowed(&self.posts, &place, &op) {
+            if is_allowed(&self.posts, object, &op) {
                 return Applied::StampLimit(op);
             }
             return Applied::NotYet(op);
         };
-        let reply = match ask::<J>(&mut self.posts, &place, &op) {
+        let reply = match ask::<J>(&mut self.posts, object, &op) {
             Ask::NotYet => return Applied::NotYet(op),
             Ask::Done(reply) => reply,
         };
         note(job, stamp, reply.copy(), &op, worker);
+        self.touched = touched(object, &op);
+        self.reserved = None;
         self.log.push_reserved(Entry {
             stamp,
             worker,
@@ -127,8 +135,6 @@ impl<J: Job> Shard<J> {
             op,
             reply: reply.copy(),
         });
-        self.touched = place.touched();
-        self.reserved = None;
         Applied::Done(reply)
     }
 
@@ -142,12 +148,14 @@ impl<J: Job> Shard<J> {
         ensures parks { Parks J.told self.old job op self.new }
         ensures settled { IsSettled J.told self.old → IsSettled J.told self.new }
     {
-        match Place::of(job.path(), &op) {
-            Place::Completion(task) => join(&mut self.posts, &task, job, op),
-            Place::Printer => unreachable!(),
+        let Some(spare) = self.spare.take() else {
+            unreachable!();
+        };
+        match self.reserved.take() {
+            Some(Object::Task(task)) => join(&mut self.posts, &task, spare.fill((job, op))),
+            _ => unreachable!(),
         }
         self.count += 1;
-        self.reserved = None;
     }
 
     /// A waiting job whose operation is allowed, the one that waits longest, with the operation. All

@@ -1,5 +1,5 @@
 -- One more job whose operation isn't allowed.
-use Rattle.std.proofs.Common.{◌<◌, ◌≤◌, arith, subst, length}
+use Rattle.std.proofs.Common.{◌<◌, ◌≤◌, ◌∙◌, arith, subst, length}
 use Rattle.std.specs.List.{All}
 use Rattle.std.proofs.lemmas.List.{take_all}
 use Rattle.std.proofs.lemmas.List.Elements.{All-more}
@@ -12,7 +12,7 @@ loop-i-preserved g c =
     let l : c.loop-i.i < length c.args.waiting.now.items = omega (arith, c.args.waiting.now.ok) in (
       omega arith,
       All-more (λ (w : g.row.J.Denot × Op). Refuses c.args.completion.now w.1) c.args.waiting.now.items c.loop-i.i c.index.result.now l c.loop-i.invariant.1
-          (subst (λ (w : g.row.J.Denot × Op). Refuses c.args.completion.now w.1) c.index.ensures c.if-allows.ensures),
+          (subst (λ (w : g.row.J.Denot × Op). Refuses c.args.completion.now w.1) (c.get.ensures ∙ c.index.ensures) c.if-allows.ensures),
     )
 
 pub returns-clause-none : goal.returns-clause-none

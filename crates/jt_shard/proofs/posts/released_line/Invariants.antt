@@ -3,9 +3,9 @@ use Rattle.std.specs.Vec.{vec_capacity}
 use Rattle.jt_shard.proofs.posts.released_line.Given as goal
 
 -- the jobs that were released, and those that are still in the line
-abbrev pub invariant-loop-job : goal.invariant-loop-job
-invariant-loop-job g l =
+abbrev pub invariant-loop-waiting : goal.invariant-loop-waiting
+invariant-loop-waiting g l =
     (l.jobs.items ++ map (λ w. w.0) l.line.items ≡ l.fn.jobs.items ++ map (λ w. w.0) l.fn.line.items) × (length l.jobs.items + length l.line.items ≤ vec_capacity l.jobs) × (vec_capacity l.jobs ≡ vec_capacity l.fn.jobs)
 
-abbrev pub decreases-loop-job : goal.decreases-loop-job
-decreases-loop-job g l = length l.line.items
+abbrev pub decreases-loop-waiting : goal.decreases-loop-waiting
+decreases-loop-waiting g l = length l.line.items

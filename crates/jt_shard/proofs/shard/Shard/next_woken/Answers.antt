@@ -1,9 +1,8 @@
 -- Only jobs of the touched task may be allowed.
 use Rattle.std.proofs.Common.{◌≡◌, List, ℕ, Some, None, ap, sym, ◌∙◌, subst, refl}
-use Rattle.std.specs.Prelude.{option_map}
 use Rattle.jt_shard.specs.declared.post.Post.{Post}
 use Rattle.jt_shard.specs.Shards.{ShardState}
-use Rattle.jt_shard.specs.Posts.{object_at, waiting_in, HasMemoryIf, IsCounted, ArePosts}
+use Rattle.jt_shard.specs.Posts.{waiting_in, HasMemoryIf, IsCounted, ArePosts}
 use Rattle.jt_shard.proofs.Waking.{woken_are, woken_some, woken_counted, woken_wakes, asleep_same, asleep_are, asleep_wakes}
 use Rattle.jt_shard.proofs.shard.Shard.next_woken.Goals as goal
 
@@ -38,7 +37,7 @@ invariant_of-self-else-is_some g c =
     let t : f.touched ≡ Some c.copy-task.result = c.in-Some.is ∙ ap Some (sym c.copy-task.ensures) in
     let a = subst (λ x. ArePosts g.J.Job.told f.log.items x f.posts.entries) t c.self.invariant.0 in
     let s = sym c.is_some.ensures ∙ c.if-is_some.false in
-    subst (λ (p : List (List ℕ × Post g.row.J.Denot)). ArePosts g.J.Job.told f.log.items None p × (IsCounted p f.count f.jobs × HasMemoryIf f.log f.jobs p f.reserved))
+    subst (λ (p : List (List ℕ × Post g.row.J.Denot)). ArePosts g.J.Job.told f.log.items None p × (IsCounted p f.count f.jobs × HasMemoryIf f.log f.jobs f.spare p f.reserved))
     (sym (asleep_same g.J.Job.told f.posts.entries c.copy-task.result c.leave-woken.result c.leave-woken.new.posts.entries s c.leave-woken.ensures))
     (asleep_are g.J.Job.told f.log.items f.posts.entries c.copy-task.result c.leave-woken.result c.leave-woken.new.posts.entries s c.leave-woken.ensures a, c.self.invariant.1)
 
@@ -61,4 +60,4 @@ returns-else-is_some g c =
     asleep_wakes g.J.Job.told c.args.self.now _ f.log.items f.posts.entries c.leave-woken.result s
     (asleep_are g.J.Job.told f.log.items f.posts.entries c.copy-task.result c.leave-woken.result c.leave-woken.new.posts.entries s c.leave-woken.ensures a)
     (ap (λ (v : ShardState g.row.J.Denot). v.log) c.self.view_is) (ap (λ (v : ShardState g.row.J.Denot). v.waiting) c.self.view_is)
-    (ap (λ (p : List (List ℕ × Post g.row.J.Denot)). record { number = f.number; events = f.events; log = f.log.items; waiting = waiting_in p; reserved = option_map object_at f.reserved }) same ∙ c.self.view_is)
+    (ap (λ (p : List (List ℕ × Post g.row.J.Denot)). record { number = f.number; events = f.events; log = f.log.items; waiting = waiting_in p; reserved = f.reserved }) same ∙ c.self.view_is)

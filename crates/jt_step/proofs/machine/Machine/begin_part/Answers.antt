@@ -1,5 +1,5 @@
 -- The last part of a block needs no frame.
-use Rattle.std.proofs.Common.{◌≡◌, sym, ◌∙◌, eqb-true}
+use Rattle.std.proofs.Common.{sym, ◌∙◌, eqb-true}
 use Rattle.std.proofs.lemmas.List.{nil_from_length}
 use Rattle.jt_step.proofs.Moves.{ends_with}
 use Rattle.jt_step.proofs.machine.Machine.begin_part.Goals as goal
