@@ -18,7 +18,7 @@ use jt_base::{Entry, Job, Object, Op, OutOfMemory, Path, Picks, Pool, SHARDS};
 use jt_histories::{cut_at_main_end, merge};
 use jt_shard::{Applied, Shard};
 use jt_step::{Advance, Start, TaskRun};
-use sqlite_items::{Boxed, Items};
+use sqlite_items::Items;
 use std::alloc::Global;
 
 /// The shards with the jobs that wait, and the jobs that don't.
@@ -27,7 +27,7 @@ pub(crate) struct Machine<'p> {
     /// The k-th has the number k.
     shards: Vec<Shard<TaskRun<'p>>>,
     /// In the order in which they became ready.
-    ready: Items<Boxed<TaskRun<'p>>>,
+    ready: Items<TaskRun<'p>>,
 }
 
 /// Sixteen shards without entries.
@@ -65,7 +65,7 @@ impl<'p> Machine<'p> {
             Pool::Default,
         )?;
         let mut ready = Items::new(setting.alloc);
-        ready.push(Boxed::new(setting.alloc, main)?)?;
+        ready.push(main)?;
         Ok(Machine { shards, ready })
     }
 
@@ -102,7 +102,7 @@ impl<'p> Machine<'p> {
         }
         let most = u32::try_from(number).unwrap_or(u32::MAX);
         let picked = picks.below(most) as usize;
-        Some(self.ready.remove(picked).into_inner())
+        Some(self.ready.remove(picked))
     }
 
     /// A job's slice: it goes on until it waits, yields, or its task is over. What the run comes to,
@@ -137,7 +137,6 @@ impl<'p> Machine<'p> {
             }
             Advance::Spawns(op, start) => {
                 let child = child(setting, &job, &op, start)?;
-                let child = Boxed::new(setting.alloc, child)?;
                 self.serve(setting, job, op, Follows::Makes(child))
             }
             Advance::Over => unreachable!(),
@@ -184,12 +183,12 @@ impl<'p> Machine<'p> {
         requires settled { SettledBut k self.old.shards.items }
         ensures { IfOk result (λ turn. Followed (run_of setting.now) setting.now.seeds self.old.shards.items self.old.ready job.entry follows.entry turn self.new.shards.items self.new.ready) }
     {
-        self.wake(setting.alloc, k)?;
+        self.wake(k)?;
         match follows {
             Follows::Ends(end) => Ok(Turn::Ended(end)),
             Follows::Over => Ok(Turn::Left),
             Follows::Yields => {
-                self.ready.push(Boxed::new(setting.alloc, job)?)?;
+                self.ready.push(job)?;
                 Ok(Turn::Left)
             }
             Follows::GoesOn => Ok(Turn::GoesOn(job)),
@@ -201,14 +200,14 @@ impl<'p> Machine<'p> {
     }
 
     /// The waiting jobs of a shard whose operations are allowed become ready.
-    fn wake(&mut self, alloc: Global, k: usize) -> Result<(), OutOfMemory>
+    fn wake(&mut self, k: usize) -> Result<(), OutOfMemory>
         requires { k < length self.old.shards.items }
         ensures { OnOk result (WakesAll k self.old.shards.items self.old.ready self.new.shards.items self.new.ready) }
     {
-        while let Some((job, op)) = self.shards[k].next_woken() {
+        while let Some((woken, op)) = self.shards[k].next_woken() {
             // the job tells it again
             drop(op);
-            self.ready.push(Boxed::new(alloc, job)?)?;
+            self.ready.push(woken)?;
         }
         Ok(())
     }

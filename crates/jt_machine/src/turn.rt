@@ -6,7 +6,6 @@ ghost use Rattle.jt_machine.specs.Turns.{follows_of};
 use crate::run::End;
 use jt_base::{Op, OutOfMemory, Path};
 use jt_step::TaskRun;
-use sqlite_items::Boxed;
 use std::alloc::Global;
 
 /// What comes of one turn of a job.
@@ -32,7 +31,7 @@ pub(crate) enum Follows<'p> {
     /// The job goes on.
     GoesOn,
     /// The job goes on, and the task that it made is ready.
-    Makes(Boxed<TaskRun<'p>>),
+    Makes(TaskRun<'p>),
 }
 
 /// What follows the reply to an operation that makes no task.

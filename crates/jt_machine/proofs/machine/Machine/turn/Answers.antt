@@ -1,5 +1,5 @@
 -- What an advance comes to.
-use Rattle.std.proofs.Common.{rules, arith, subst, ◌<◌, ◌∙◌}
+use Rattle.std.proofs.Common.{rules, arith, subst, ◌<◌}
 use Rattle.std.proofs.lemmas.Result.{IfOk-weaker}
 use Rattle.jt_machine.proofs.Turning.{advanced_runs, never_over, more_turns, needs_asks, spawn_is, spawn_body, spawn_asks, served_turns, many_bodies}
 use Rattle.jt_machine.proofs.machine.Machine.turn.Goals as goal
@@ -31,9 +31,9 @@ pub serve-requires-in-Spawns : goal.serve-requires-in-Spawns
 serve-requires-in-Spawns c = record {
   runs = advanced_runs _ _ _ _ _ _ _ _ c.requires.runs c.requires.settled c.in_ok-advance.ensures.ok;
   settled = c.requires.settled;
-  asks = spawn_asks _ _ _ _ _ _ _ _ c.requires.runs c.requires.settled c.in_ok-advance.ensures.ok _ _ _ c.in_ok-advance.ensures.goes_on c.in_ok-advance.ensures.asks_well c.in-Spawns.is (c.in_ok-child-in-Spawns-2.ensures ∙ c.in_ok-child-in-Spawns.ensures);
+  asks = spawn_asks _ _ _ _ _ _ _ _ c.requires.runs c.requires.settled c.in_ok-advance.ensures.ok _ _ _ c.in_ok-advance.ensures.goes_on c.in_ok-advance.ensures.asks_well c.in-Spawns.is c.in_ok-child-in-Spawns.ensures;
 }
 
-pub returns-in_ok-child-in-Spawns-2 : goal.returns-in_ok-child-in-Spawns-2
-returns-in_ok-child-in-Spawns-2 c =
+pub returns-in_ok-child-in-Spawns : goal.returns-in_ok-child-in-Spawns
+returns-in_ok-child-in-Spawns c =
     IfOk-weaker c.serve-in-Spawns.result _ _ (λ t s. served_turns _ _ _ _ _ _ _ _ c.requires.runs c.requires.settled c.in_ok-advance.ensures.ok t _ _ s) c.serve-in-Spawns.ensures

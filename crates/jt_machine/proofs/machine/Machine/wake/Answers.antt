@@ -3,14 +3,14 @@ use Rattle.std.proofs.Common.{rules}
 use Rattle.jt_machine.proofs.Waking.{begin_waking, wake_one, wait_fewer, end_waking}
 use Rattle.jt_machine.proofs.machine.Machine.wake.Goals as goal
 
-pub loop-job-init : goal.loop-job-init
-loop-job-init c = begin_waking _ _ _ c.requires
+pub loop-woken-init : goal.loop-woken-init
+loop-woken-init c = begin_waking _ _ _ c.requires
 
-pub loop-job-preserved : goal.loop-job-preserved
-loop-job-preserved c = wake_one _ _ _ _ _ c.loop-job.invariant c.index_mut.result.now c.index_mut.ensures.value _ _ _ _ c.in-Some.ensures (search rules)
+pub loop-woken-preserved : goal.loop-woken-preserved
+loop-woken-preserved c = wake_one _ _ _ _ _ c.loop-woken.invariant c.index_mut.result.now c.index_mut.ensures.value _ _ _ _ c.in-Some.ensures (search rules)
 
-pub loop-job-smaller : goal.loop-job-smaller
-loop-job-smaller c = wait_fewer _ _ _ _ _ c.loop-job.invariant c.index_mut.result.now c.index_mut.ensures.value _ _ _ c.in-Some.ensures
+pub loop-woken-smaller : goal.loop-woken-smaller
+loop-woken-smaller c = wait_fewer _ _ _ _ _ c.loop-woken.invariant c.index_mut.result.now c.index_mut.ensures.value _ _ _ c.in-Some.ensures
 
 pub returns : goal.returns
-returns c = end_waking _ _ _ _ _ c.loop-job.invariant c.index_mut.result.now c.index_mut.ensures.value _ c.in_default.ensures
+returns c = end_waking _ _ _ _ _ c.loop-woken.invariant c.index_mut.result.now c.index_mut.ensures.value _ c.in_default.ensures

@@ -4,9 +4,9 @@ use Rattle.jt_machine.specs.Turns.{WakesSome}
 use Rattle.jt_machine.proofs.machine.Machine.wake.Given as goal
 
 -- some are woken
-abbrev pub invariant-loop-job : goal.invariant-loop-job
-invariant-loop-job l = WakesSome l.k l.fn.self.shards.items l.fn.self.ready l.self.shards.items l.self.ready
+abbrev pub invariant-loop-woken : goal.invariant-loop-woken
+invariant-loop-woken l = WakesSome l.k l.fn.self.shards.items l.fn.self.ready l.self.shards.items l.self.ready
 
 -- those that wait
-abbrev pub decreases-loop-job : goal.decreases-loop-job
-decreases-loop-job l = length (waiting_in l.self.shards.items)
+abbrev pub decreases-loop-woken : goal.decreases-loop-woken
+decreases-loop-woken l = length (waiting_in l.self.shards.items)
