@@ -1,5 +1,6 @@
 pub mod Coming
 pub mod Jobs
+pub mod Limits
 pub mod MemorySink
 pub mod MemorySource
 pub mod Names

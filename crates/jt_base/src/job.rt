@@ -9,8 +9,9 @@ use crate::path::Path;
 use crate::run::Pool;
 
 /// A task, as those see it who queue it and answer its operations: contracts see its description
-/// (path, start, seat and the notes of its entries), and what comes next for such a task.
-pub trait Job: Drop {
+/// (path, start, seat and the notes of its entries), and what comes next for such a task. A job may go
+/// from one thread to another.
+pub trait Job: Send + Drop {
     ghost use Rattle.std.specs.Prelude.{◌≡◌, ℕ, List, [], Option, Some, false};
     ghost use Rattle.jt_base.specs.declared.operation.Op.{Op};
     ghost use Rattle.jt_base.specs.declared.operation.Op.TheVariants.{Begin};

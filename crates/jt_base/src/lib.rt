@@ -5,6 +5,7 @@
 mod entry;
 mod gate;
 mod job;
+mod limits;
 mod memory;
 mod memory_sink;
 mod memory_source;
@@ -23,6 +24,7 @@ mod value;
 pub use entry::{Ask, Entry, Note};
 pub use gate::{Gate, OpenGate};
 pub use job::Job;
+pub use limits::{DEFAULT_LIMITS, MOST_CALLS, MOST_OPEN, MOST_SCRIPT};
 pub use memory::OutOfMemory;
 pub use memory_sink::MemorySink;
 pub use memory_source::MemorySource;

@@ -1,6 +1,7 @@
 -- The law of every object, as one function: the only reply that an operation can have after the
 -- earlier entries of its object. So no operation is allowed with two replies.
-use Rattle.std.specs.Prelude.{◌≡◌, ℕ, List, [], ◌∷◌, ◌++◌, Option, Some, None, not}
+use Rattle.std.specs.Prelude.{◌≡◌, ℕ, List, [], ◌∷◌, ◌++◌, Option, Some, None, Bool, not}
+use Rattle.std.specs.Option.{is_some}
 use Rattle.jt_base.specs.declared.operation.Op.{Op}
 use Rattle.jt_base.specs.declared.operation.Op.TheVariants.{Begin, End, Fail, Spawn, Fetch, Wait, Yield, Print, NewChannel, NewAtomic, NewEvent, NewCondition, NewLock, NewSemaphore, Put, Offer, Landed, Take, Next, Close, IsOpen, IsReady, Notify, Reset, EWait, Lock, Unlock, CWait, CBack, CNotify, Acquire, Release, AGet, ASet, AAdd, ASub, AXchg, ACas}
 use Rattle.jt_base.specs.declared.operation.Reply.{Reply}
@@ -82,6 +83,11 @@ pub record Asked (S : Type 0) (left_by : List Entry → Option S) (task : List �
   pub answers : (past : List Entry) → IsLawful past → left_by past ≡ Some before → answer ≡ answer_of (reply_after past task op)
   pub moves : (past : List Entry) (e : Entry) → IsLawful past → left_by past ≡ Some before → e.task ≡ task → e.op ≡ op → reply_after past task op ≡ Some e.reply → left_by (past ++ e ∷ []) ≡ Some after
   pub stays : answer ≡ NotYet → after ≡ before
+
+-- An object in this state says beforehand whether it would allow a task's operation: whatever lawful list
+-- of its entries left the state, it says yes exactly where the law has a reply after this list.
+abbrev pub Allowed : (S : Type 0) → (List Entry → Option S) → List ℕ → Op → S → Bool → Type 0
+Allowed S left_by task op state answer = (past : List Entry) → IsLawful past → left_by past ≡ Some state → answer ≡ is_some (reply_after past task op)
 
 -- An object is made in this state by an operation: the entry of it, as the object's first, leaves the state.
 abbrev pub MadeBy : (S : Type 0) → (List Entry → Option S) → Op → S → Type 0
