@@ -1,3 +1,4 @@
+mod Examples
 pub mod Lists
 pub mod Orders
 pub mod ObjectLaws
@@ -5,11 +6,19 @@ pub mod Locality
 pub mod Stamped
 pub mod InOrder
 pub mod Legal
+pub mod Logs
 pub mod Placed
+pub mod Members
+pub mod OnePaths
 pub mod Keeps
 pub mod Start
 pub mod Turning
 pub mod Resting
+pub mod Telling
+pub mod Making
+pub mod Amid
+pub mod NextEntry
+pub mod Reaching
 pub mod Taking
 pub mod FrontSteps
 pub mod MainEnd

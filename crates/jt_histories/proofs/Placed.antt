@@ -1,8 +1,8 @@
 -- One entry of one job in the merge of the logs: where it lands, and what stays.
-use Rattle.std.proofs.Common.{◌≡◌, ℕ, ◌+◌, ◌<◌, List, [], ◌∷◌, ◌++◌, Option, Some, Bool, true, false, cond, max, ◌⊎◌, inl, inr, refl, sym, ap, ◌∙◌, subst, arith, nat_eq, map, reverse, append_assoc, length, get_or, set}
+use Rattle.std.proofs.Common.{◌≡◌, ℕ, ◌+◌, ◌<◌, List, [], ◌∷◌, ◌++◌, Option, Some, Bool, true, false, cond, max, ◌⊎◌, inl, inr, refl, sym, ap, ◌∙◌, subst, arith, nat_eq, map, reverse, append_assoc, length, get_or}
 use Rattle.std.specs.Prelude.{filter}
-use Rattle.std.proofs.lemmas.Bool.{eq-eqb, eqb-true, eqb-false, false≢true}
-use Rattle.std.proofs.lemmas.List.{reverse-reverse, reverse-append, append-nil, map_push, length_push, get_or-set_same, get_or-set_other}
+use Rattle.std.proofs.lemmas.Bool.{eq-eqb, eqb-true, false≢true}
+use Rattle.std.proofs.lemmas.List.{reverse-reverse, reverse-append, append-nil, map_push, length_push}
 use Rattle.std.proofs.lemmas.List.Elements.{filter-append}
 use Rattle.jt_base.specs.declared.operation.Reply.{Reply}
 use Rattle.jt_base.specs.declared.entry.Entry.{Entry}
@@ -15,9 +15,11 @@ use Rattle.jt_laws.specs.Histories.{World, Birth, birth_from, born_in, born_of, 
 use Rattle.jt_laws.proofs.Paths.{same_itself, same_equal}
 use Rattle.jt_histories.specs.Kept.{Kept, Same, Laws}
 use Rattle.jt_histories.specs.Merges.{IsMerge, insert_entry}
+use Rattle.jt_histories.specs.Made.{with_entry}
 use Rattle.jt_base.specs.Jobs.{note_reply, last_note_from, last_note, Held}
 use Rattle.jt_histories.specs.Jobs.{note_of, last_entry_from, last_entry, Live, Belongs, Makes, noted_job}
 use Rattle.jt_histories.proofs.Lists.{or_else, by_test, same_object_refl, in_filter, filter_none, filter_push_yes, filter_push_no, in_left, in_right}
+use Rattle.jt_histories.proofs.Logs.{parts_more}
 use Rattle.jt_histories.proofs.Orders.{key_later, same_key, insert_other, insert_last, insert_ordered, in_insert}
 use Rattle.jt_histories.proofs.ObjectLaws.{spawn_once, spawn_object, spawn_no_end}
 use Rattle.jt_histories.proofs.Locality.{same_in, task_in, object_in_shard, birth_more, kept_same}
@@ -65,8 +67,8 @@ born_here S next p before (x ∷ xs) e n y =
     ∙ ap (λ l. birth_from e (next l)) (append_assoc before (x.reply ∷ []) (map reply_of xs))
 
 -- what one entry leaves
-pub record Made (S : Type 0) (w : World S) (logs : List (List Entry)) (h : List Entry) (j : Held S) (e : Entry) : Type 0 where
-  pub merged : IsMerge (set logs (shard e) (get_or logs (shard e) [] ++ e ∷ [])) (insert_entry e h)
+pub record Entered (S : Type 0) (w : World S) (logs : List (List Entry)) (h : List Entry) (j : Held S) (e : Entry) : Type 0 where
+  pub merged : IsMerge (with_entry logs e) (insert_entry e h)
   pub legal : IsLegalHistory S w (insert_entry e h)
   pub maker : (birth : Birth S) → birth_of S w h j.path ≡ Some birth → Belongs S w (insert_entry e h) (noted_job S j (seat_of w.sizes birth.maker (of_task j.path h ++ e ∷ [])) e)
   pub others : (k : Held S) → (k.path ≡ e.task → ⊥) → Belongs S w h k → Belongs S w (insert_entry e h) k
@@ -119,18 +121,10 @@ module _ (S : Type 0) (w : World S) where
       let l : x.stamp < e.stamp = later_shard S w h e f x i (eq-eqb (shard x) (shard e) same.1) in
       let p : x.stamp ≡ e.stamp = same.0 in absurd (omega arith))
 
-  merge_more : (logs : List (List Entry)) (h : List Entry) (e : Entry) → shard e < length logs → IsMerge logs h → Stamps S w h e → IsMerge (set logs (shard e) (get_or logs (shard e) [] ++ e ∷ [])) (insert_entry e h)
+  merge_more : (logs : List (List Entry)) (h : List Entry) (e : Entry) → shard e < length logs → IsMerge logs h → Stamps S w h e → IsMerge (with_entry logs e) (insert_entry e h)
   merge_more logs h e r m f = record {
     ordered = ordered_more h e m.ordered f;
-    logged = λ k. sym ((same_more h e m.ordered f).shards k) ∙ by_test (nat_eq (shard e) k)
-        (λ y. let q = eqb-true (shard e) k y in
-        filter_push_yes (λ x. nat_eq (shard x) k) h e y
-        ∙ ap (λ l. l ++ e ∷ []) (m.logged k)
-        ∙ ap (λ n. get_or logs n [] ++ e ∷ []) (sym q)
-        ∙ sym (get_or-set_same logs (shard e) (get_or logs (shard e) [] ++ e ∷ []) [] r)
-        ∙ ap (λ n. get_or (set logs (shard e) (get_or logs (shard e) [] ++ e ∷ [])) n []) q)
-        (λ n. filter_push_no (λ x. nat_eq (shard x) k) h e n ∙ m.logged k
-        ∙ sym (get_or-set_other logs (shard e) k (get_or logs (shard e) [] ++ e ∷ []) [] (λ q. eqb-false (shard e) k n (sym q))));
+    logged = λ k. sym ((same_more h e m.ordered f).shards k) ∙ parts_more logs h e r m.logged k;
   }
 
   birth_insert : (h : List Entry) (e : Entry) → Ordered h → Stamps S w h e → (r : List ℕ) (b : Birth S) → birth_at S w (λ p. of_task p h) r ≡ Some b → birth_at S w (λ p. of_task p (insert_entry e h)) r ≡ Some b
@@ -186,7 +180,7 @@ module _ (S : Type 0) (w : World S) (laws : Laws S w) where
       ∙ born_here S (w.next e.task b.start) q [] (of_task e.task h) e (λ x i. never S w h e f q y x (task_in x e.task h i).0) y
       ∙ ap (birth_from e) c
 
-  pub one_entry : (logs : List (List Entry)) (h : List Entry) (j : Held S) (e : Entry) → shard e < length logs → IsMerge logs h → IsLegalHistory S w h → Belongs S w h j → Makes S w (get_or logs (shard e) []) j e → Made S w logs h j e
+  pub one_entry : (logs : List (List Entry)) (h : List Entry) (j : Held S) (e : Entry) → shard e < length logs → IsMerge logs h → IsLegalHistory S w h → Belongs S w h j → Makes S w (get_or logs (shard e) []) j e → Entered S w logs h j e
   one_entry logs h j e r m l b k =
       let kept = history_kept S w h l in
       let f = fits_made S w h j e (get_or logs (shard e) []) b k (m.logged (shard e)) in

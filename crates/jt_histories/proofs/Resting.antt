@@ -80,7 +80,7 @@ end_or_not (e ∷ es) p = or_else (end_or_not es p)
 
 module _ (S : Type 0) (w : World S) where
   -- nothing comes for a task that ended
-  ended_over : EndsIt S w → (h : List Entry) → Kept S w h → (p : List ℕ) (b : Birth S) → birth_of S w h p ≡ Some b → (x : Entry) → In x h → x.task ≡ p → ends x.op ≡ true → op_of (w.next p b.start (map reply_of (of_task p h))) ≡ None
+  pub ended_over : EndsIt S w → (h : List Entry) → Kept S w h → (p : List ℕ) (b : Birth S) → birth_of S w h p ≡ Some b → (x : Entry) → In x h → x.task ≡ p → ends x.op ≡ true → op_of (w.next p b.start (map reply_of (of_task p h))) ≡ None
   ended_over over h k p b eb x i t y =
       let f = k.fits x i in
       let one : Some f.birth ≡ Some b = sym f.born ∙ ap (birth_of S w h) t ∙ eb in

@@ -12,6 +12,7 @@ ghost use Rattle.jt_histories.specs.Kept.{Laws};
 ghost use Rattle.jt_histories.specs.Merges.{IsMerge, AreLogs};
 ghost use Rattle.jt_base.specs.Jobs.{Held};
 ghost use Rattle.jt_histories.specs.Jobs.{Has, Makes, Holds, main_job, left_after, coming};
+ghost use Rattle.jt_histories.specs.Made.{with_entry};
 ghost use Rattle.jt_histories.specs.Rest.{AtRest, EndsIt, AllStuck, AtLimit, MeetsLimit};
 ghost use Rattle.jt_histories.specs.Turns.{Turns};
 
@@ -24,7 +25,7 @@ pub fn start_holds<S>()
 /// entry's shard allows, and the entry comes at the end of this log, they hold again: whatever the
 /// other logs have, also entries with greater stamps.
 pub fn entry_keeps<S>()
-    ensures { (world : World S) → Laws S world → (logs : List (List Entry)) (j : Held S) (rest : List (Held S)) (e : Entry) → Holds S world logs (j ∷ rest) → Makes S world (get_or logs (shard e) []) j e → Holds S world (set logs (shard e) (get_or logs (shard e) [] ++ e ∷ [])) (left_after S world j e (coming S world j) ++ rest) }
+    ensures { (world : World S) → Laws S world → (logs : List (List Entry)) (j : Held S) (rest : List (Held S)) (e : Entry) → Holds S world logs (j ∷ rest) → Makes S world (get_or logs (shard e) []) j e → Holds S world (with_entry logs e) (left_after S world j e (coming S world j) ++ rest) }
 {}
 
 /// The order of the jobs doesn't matter.
