@@ -3,8 +3,10 @@
 ghost use Rattle.std.specs.Prelude.{◌≡◌, ℕ, ℤ, List, true};
 ghost use Rattle.jt_base.specs.declared.operation.Op.TheVariants as op;
 ghost use Rattle.jt_base.specs.declared.name.Name.{Name};
+ghost use Rattle.jt_base.specs.declared.object.Object.TheVariants.{Named};
+ghost use Rattle.jt_base.specs.Objects.{object_of};
 ghost use Rattle.jt_laws.specs.Atomics.{atomic_left_by, is_atomic_op};
-ghost use Rattle.jt_laws.specs.Objects.{Asked, MadeBy};
+ghost use Rattle.jt_laws.specs.Objects.{Allowed, Asked, MadeBy};
 ghost use Rattle.jt_channels.specs.Values.{value_after, value_reply_at};
 
 use jt_base::{Ask, Op, Reply};
@@ -57,6 +59,22 @@ impl Cell64 {
             Op::ACas(_, _, _) => self.replace(self.value),
             _ => unreachable!(),
         }
+    }
+
+    /// Whether this operation is allowed: each of those on atomics, and no other.
+    pub fn allows(&self, op: &Op) -> bool
+        ensures law { (task : List ℕ) (name : Name) → object_of task op.now ≡ Named name → Allowed ℤ atomic_left_by task op.now self.now result }
+        ensures operations { result ≡ is_atomic_op op.now }
+    {
+        matches!(
+            op,
+            Op::AGet(_)
+                | Op::ASet(_, _)
+                | Op::AAdd(_, _)
+                | Op::ASub(_, _)
+                | Op::AXchg(_, _)
+                | Op::ACas(_, _, _)
+        )
     }
 
     // Writes a value, and replies the one before.

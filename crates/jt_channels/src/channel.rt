@@ -3,11 +3,13 @@
 ghost use Rattle.std.specs.Prelude.{◌≡◌, ℕ, ◌^◌, ◌<◌, ◌≤◌, ◌&&◌, List, [], length, true, false, not, nat_eq, slice_get, IfSome, IfNone, OnSome, OnOk};
 ghost use Rattle.jt_base.specs.declared.operation.Op.TheVariants as op;
 ghost use Rattle.jt_base.specs.declared.name.Name.{Name};
+ghost use Rattle.jt_base.specs.declared.object.Object.TheVariants.{Named};
+ghost use Rattle.jt_base.specs.Objects.{object_of};
 ghost use Rattle.jt_laws.specs.Channels.{Channel, channel_left_by};
-ghost use Rattle.jt_laws.specs.Objects.{Asked, MadeBy};
-ghost use Rattle.jt_channels.specs.Steps.{without_item, numbered, Keeps};
+ghost use Rattle.jt_laws.specs.Objects.{Allowed, Asked, MadeBy};
+ghost use Rattle.jt_channels.specs.Steps.{is_channel_op, puts_item, is_offer, can_put, can_land, can_take, without_item, numbered, Keeps};
 
-use jt_base::{Ask, OutOfMemory, Reply};
+use jt_base::{Ask, Op, OutOfMemory, Reply};
 use std::alloc::Global;
 use std::collections::VecDeque;
 use std::marker::Model;
@@ -72,6 +74,30 @@ impl Chan {
         self.capacity
     }
 
+    /// Answers an operation on this channel, each as its own call here does. `NotYet` exactly where
+    /// the law of objects allows no reply, so also at a put without a buffer, at an offer or a
+    /// landing with one, and at every other operation: the channel is then as it was.
+    pub fn ask(&mut self, op: &Op) -> Ask
+        requires reserved { puts_item op.now ≡ true → 0 < self.old.room }
+        requires offers { is_offer op.now ≡ true → numbered self.old.state < 2 ^ 32 }
+        ensures law { (task : List ℕ) (name : Name) → object_of task op.now ≡ Named name → Asked Channel channel_left_by task op.now self.old.state result self.new.state }
+        ensures kept { Keeps self.old self.new 1 }
+        ensures not_yet { result ≡ Ask.NotYet → self.new ≡ self.old }
+        ensures others { is_channel_op op.now ≡ false → result ≡ Ask.NotYet }
+    {
+        match op {
+            Op::Put(_, v) if self.capacity > 0 => self.put(*v),
+            Op::Offer(_, v) if self.capacity == 0 => self.offer(*v),
+            Op::Landed(_, k) if self.capacity == 0 => self.landed(*k),
+            Op::Take(_) => self.take(),
+            Op::Next(_) => self.next_item(),
+            Op::Close(_) => self.close(),
+            Op::IsOpen(_) => self.is_open(),
+            Op::IsReady(_) => self.is_ready(),
+            _ => Ask::NotYet,
+        }
+    }
+
     /// Puts an item into the buffer: `closed` after a close, and not yet where the buffer is full.
     pub fn put(&mut self, v: i64) -> Ask
         requires buffered { 0 < self.old.state.capacity }
@@ -98,6 +124,7 @@ impl Chan {
         requires offers { numbered self.old.state < 2 ^ 32 }
         ensures law { (task : List ℕ) (name : Name) → Asked Channel channel_left_by task (op.Offer name v) self.old.state result self.new.state }
         ensures kept { Keeps self.old self.new 1 }
+        ensures not_yet { result ≡ Ask.NotYet → self.new ≡ self.old }
     {
         if self.closed {
             return Ask::Done(Reply::Closed);
@@ -159,6 +186,7 @@ impl Chan {
     pub fn close(&mut self) -> Ask
         ensures law { (task : List ℕ) (name : Name) → Asked Channel channel_left_by task (op.Close name) self.old.state result self.new.state }
         ensures kept { Keeps self.old self.new 0 }
+        ensures not_yet { result ≡ Ask.NotYet → self.new ≡ self.old }
     {
         self.closed = true;
         Ask::Done(Reply::Ok)
@@ -176,6 +204,43 @@ impl Chan {
         ensures law { (task : List ℕ) (name : Name) → Asked Channel channel_left_by task (op.IsReady name) self.now.state result self.now.state }
     {
         Ask::Done(Reply::Flag(self.has_item()))
+    }
+
+    /// Whether this operation would be answered `Done` now. A put is where the buffer has room, a
+    /// take and a next item where an item is left, the landing of a number where as many items were
+    /// taken, and each of these also after a close; an offer, a close and the two questions always
+    /// are. A put without a buffer, an offer or a landing with one, and an operation on another kind
+    /// of object never are.
+    pub fn allows(&self, op: &Op) -> bool
+        ensures law { (task : List ℕ) (name : Name) → object_of task op.now ≡ Named name → Allowed Channel channel_left_by task op.now self.now.state result }
+        ensures others { is_channel_op op.now ≡ false → result ≡ false }
+    {
+        match op {
+            Op::Put(_, _) => self.can_put(),
+            Op::Offer(_, _) => self.capacity == 0,
+            Op::Landed(_, k) => self.can_land(*k),
+            Op::Take(_) | Op::Next(_) => self.can_take(),
+            Op::Close(_) | Op::IsOpen(_) | Op::IsReady(_) => true,
+            _ => false,
+        }
+    }
+
+    fn can_put(&self) -> bool
+        ensures { result ≡ can_put self.now.state }
+    {
+        self.capacity > 0 && (self.closed || self.items.len() < self.capacity as usize)
+    }
+
+    fn can_land(&self, k: u64) -> bool
+        ensures { result ≡ can_land self.now.state k }
+    {
+        self.capacity == 0 && (self.closed || k <= self.taken)
+    }
+
+    fn can_take(&self) -> bool
+        ensures { result ≡ can_take self.now.state }
+    {
+        self.closed || self.has_item()
     }
 
     // Whether the close of an unbuffered channel has withdrawn the offers.

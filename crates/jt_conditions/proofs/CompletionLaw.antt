@@ -14,13 +14,15 @@ use Rattle.jt_base.specs.Objects.{object_of}
 use Rattle.jt_laws.specs.Entries.{spawns, ends}
 use Rattle.jt_base.specs.declared.object.Object.TheVariants.{Task}
 use Rattle.jt_laws.specs.Tasks.{ok_if, is_new, is_main, is_begin, is_spawned, has_begun, has_ended, fetch_of, wait_of}
-use Rattle.jt_laws.specs.Objects.{reply_after, IsLawful, answer_of, Asked}
+use Rattle.jt_laws.specs.Objects.{reply_after, IsLawful, answer_of, Asked, Allowed}
 use Rattle.jt_laws.proofs.Paths.{same_itself}
 use Rattle.jt_laws.proofs.TaskLaws.{begun_push, ended_begun, when_ok, both_true}
+use Rattle.jt_conditions.specs.Answers.{is_done}
 use Rattle.jt_conditions.specs.declared.completion.Completion.{Completion}
 use Rattle.jt_conditions.specs.declared.completion.Completion.TheVariants.{Spawned, Running, Ended, Failed}
 use Rattle.jt_conditions.specs.Completions.{outcome_of, stage_by, stage_of, is_there, makes_task, completion_left_by}
 use Rattle.jt_conditions.specs.CompletionSteps.{begin_answer, begun, running_answer, finished, fetch_answer, wait_answer}
+use Rattle.jt_conditions.proofs.Asking.{allowed_by}
 
 -- the answer, and the state after it, by the operation
 abbrev pub answer : Op → Completion → Ask
@@ -223,6 +225,11 @@ asked op before given new g n path task o = record {
       moves path task op past e l t.0 o q a ∙ ap (λ b. Some (after op b)) t.1 ∙ ap Some (sym n);
   stays = λ h. n ∙ stays op before (sym g ∙ h);
 }
+
+-- and what is allowed is what it answers by a reply
+pub allowed : (op : Op) (state : Completion) (given : Bool) → given ≡ is_done (answer op state) → (path task : List ℕ) → object_of task op ≡ Task path → Allowed Completion (completion_left_by path) task op state given
+allowed op state given g path task o =
+    allowed_by Completion (completion_left_by path) task op op state given (answer op state) (after op state) refl g (asked op state _ _ refl refl path task o)
 
 -- the Spawn of a task leaves one that has not begun
 pub made : (path : List ℕ) (how : How) (e : Entry) → e.op ≡ Spawn path how → completion_left_by path (e ∷ []) ≡ Some Spawned

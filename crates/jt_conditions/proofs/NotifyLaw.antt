@@ -1,13 +1,14 @@
 -- A condition answers a notify, and the return of a task that was notified, by its law.
 use Rattle.std.proofs.Common.{◌≡◌, ℕ, suc, ◌+◌, ◌-◌, ◌<◌, ◌≤◌, List, [], ◌∷◌, ◌++◌, length, take, drop, Option, Some, None, Bool, true, false, refl, sym, ap, subst, ◌∙◌, cond, arith}
 use Rattle.std.specs.Prelude.{◌&&◌, pos, min, nat_lt, nat_le, filter, fold, option_map, if◌then◌else◌}
+use Rattle.std.specs.Option.{is_some}
 use Rattle.std.specs.FinMap as finite
 use Rattle.std.proofs.lemmas.Bool.Decides.{nat_tests}
 use Rattle.jt_base.specs.declared.operation.Op.TheVariants.{CBack, CNotify}
 use Rattle.jt_base.specs.declared.operation.Reply.{Reply}
 use Rattle.jt_base.specs.declared.operation.Reply.TheVariants as reply
 use Rattle.jt_base.specs.declared.entry.Entry.{Entry}
-use Rattle.jt_base.specs.declared.entry.Ask.TheVariants.{Done, NotYet}
+use Rattle.jt_base.specs.declared.entry.Ask.TheVariants.{NotYet}
 use Rattle.jt_base.specs.declared.name.Name.{Name}
 use Rattle.jt_laws.specs.Entries.{same_path}
 use Rattle.jt_laws.specs.Tasks.{ok_if}
@@ -16,9 +17,10 @@ use Rattle.jt_laws.specs.Objects.{IsLawful, answer_of, Asked}
 use Rattle.jt_laws.proofs.Paths.{same_itself, same_equal}
 use Rattle.jt_conditions.specs.declared.absence.Absence.{Absence}
 use Rattle.jt_conditions.specs.Absences.{AbsentTasks, wholly_notified}
+use Rattle.jt_conditions.specs.Answers.{is_done}
 use Rattle.jt_conditions.specs.Locks.{Holder, holder_of, reply_to}
 use Rattle.jt_conditions.specs.Conditions as c
-use Rattle.jt_conditions.specs.Conditions.{Condition, condition_of, condition_left_by, absences, notified_once, put_notified, with_notified, all_notified, how_many, woken, notify_answer, after_notify, one_less_wait, back_by, back_answer, back, back_with, after_back}
+use Rattle.jt_conditions.specs.Conditions.{Condition, condition_of, condition_left_by, absences, notified_once, put_notified, with_notified, all_notified, how_many, woken, notify_answer, after_notify, one_less_wait, returning_by, returning, back_by, back_answer, back, back_with, after_back}
 use Rattle.jt_conditions.proofs.Absent.{kept, kept_of, get_absences, absences_are}
 use Rattle.jt_conditions.proofs.ConditionLaw.{found, left, kept_as, kept_some, kept_none, absence_is, unmoved, holder_answers}
 use Rattle.jt_laws.proofs.Notified.{was_notified}
@@ -175,11 +177,11 @@ same_test w k p =
       | false ↦ λ t. let h : w ≤ k + p = grind (arith, nat_tests) in let g : w - k - p ≡ 0 = omega (arith, h) in grind (arith, nat_tests)
     ] refl
 
-ok_or_not : (b : Bool) → answer_of (ok_if b) ≡ (if b then Done reply.Ok else NotYet)
-ok_or_not true = refl
-ok_or_not false = refl
+ok_or_not : (b : Bool) (a : Absence) → answer_of (ok_if b) ≡ back_by (if b then Some a else None)
+ok_or_not true a = refl
+ok_or_not false a = refl
 
-notified_test : (own : List Entry) (task : List ℕ) (o : Option Absence) → IsLawful own → finite.get (absences own) task ≡ o → answer_of (ok_if (is_notified task own)) ≡ back_by None o
+notified_test : (own : List Entry) (task : List ℕ) (o : Option Absence) → IsLawful own → finite.get (absences own) task ≡ o → answer_of (ok_if (is_notified task own)) ≡ back_by (returning_by None o)
 notified_test own task None l g =
     let none = sym (get_absences own task) ∙ g in
     let b = (counted own l task).back in
@@ -191,9 +193,9 @@ notified_test own task None l g =
     ] refl
 notified_test own task (Some a) l g =
     let is = (kept_is (before_of task own) (waits_of task own) (backs_of task own) (places_of task own) a (sym (get_absences own task) ∙ g)).1 in
-    ok_or_not (is_notified task own) ∙ ap (λ b. if b then Done reply.Ok else NotYet) (same_test (waits_of task own) (backs_of task own) (places_of task own) ∙ ap (λ x. nat_lt 0 x.notified) is)
+    ok_or_not (is_notified task own) a ∙ ap (λ b. back_by (if b then Some a else None)) (same_test (waits_of task own) (backs_of task own) (places_of task own) ∙ ap (λ x. nat_lt 0 x.notified) is)
 
-back_answers : (own : List Entry) (task : List ℕ) (holder : Option Holder) → IsLawful own → is_condition own ≡ true → holder_of own ≡ holder → back_by holder (finite.get (absences own) task) ≡ answer_of (back_reply own task)
+back_answers : (own : List Entry) (task : List ℕ) (holder : Option Holder) → IsLawful own → is_condition own ≡ true → holder_of own ≡ holder → back_by (returning_by holder (finite.get (absences own) task)) ≡ answer_of (back_reply own task)
 back_answers own task None l k h =
     let free = free_none own (subst (Levelled own) h (levelled own l)) in
     sym (ap (λ b. answer_of (ok_if (b && (is_free own && is_notified task own)))) k ∙ ap (λ b. answer_of (ok_if (b && is_notified task own))) free ∙ notified_test own task (finite.get (absences own) task) l refl)
@@ -247,18 +249,18 @@ back_moves own e n l k q given =
     holder_after own e None (Some (record { task = t; level = before_of t own })) (subst (Levelled own) free (levelled own l)) (now ∙ sym (ap (λ b. if b then before_of t own else 0) (same_itself t))) (λ r s. sym (ap (λ b. if b then before_of t own else 0) s)) ((counted own l t).level (omega (arith, h))) in
     let some : nat_lt 0 (waits_of t own - backs_of t own - places_of t own) ≡ true = let g : 0 < waits_of t own - backs_of t own - places_of t own = omega (arith, h) in grind (arith, nat_tests) in
     left own e (back (condition_of own) t a) k held ws (back_absences own e n q h ws)
-    ∙ ap (λ b. Some (if b then back (condition_of own) t a else condition_of own)) (sym some)
-    ∙ ap (λ o. Some (back_with (condition_of own) t None o)) (sym is)
-    ∙ ap (λ o. Some (back_with (condition_of own) t o (finite.get (absences own) t))) (sym free)
+    ∙ ap (λ b. Some (back_with (condition_of own) t (if b then Some a else None))) (sym some)
+    ∙ ap (λ o. Some (back_with (condition_of own) t (returning_by None o))) (sym is)
+    ∙ ap (λ o. Some (back_with (condition_of own) t (returning_by o (finite.get (absences own) t)))) (sym free)
 
-back_stays_by : (s : Condition) (task : List ℕ) (h : Option Holder) (o : Option Absence) → back_by h o ≡ NotYet → back_with s task h o ≡ s
-back_stays_by s task None None e = refl
-back_stays_by s task None (Some a) e =
-    elim (nat_lt 0 a.notified) as (λ b. (if b then Done reply.Ok else NotYet) ≡ NotYet → ◌≡◌ {A = Condition} (if b then back s task a else s) s) [
-      | true ↦ λ g. absurd (cc)
-      | false ↦ λ g. refl
-    ] e
-back_stays_by s task (Some h) o e = refl
+back_stays_by : (s : Condition) (task : List ℕ) (o : Option Absence) → back_by o ≡ NotYet → back_with s task o ≡ s
+back_stays_by s task None e = refl
+back_stays_by s task (Some a) e = absurd (cc)
+
+-- a task that may come back is answered by a reply
+pub back_done : (o : Option Absence) → is_some o ≡ is_done (back_by o)
+back_done None = refl
+back_done (Some a) = refl
 
 pub back_asked : (task : List ℕ) (n : Name) (before : Condition) → Asked Condition condition_left_by task (CBack n) before (back_answer before task) (after_back before task)
 back_asked task n before = record {
@@ -266,5 +268,5 @@ back_asked task n before = record {
       ap (λ x. back_answer x task) (sym f.1) ∙ back_answers past task (holder_of past) l f.0 refl;
   moves = λ past e l s by q a. let f = found past before s in
       back_moves past e n l f.0 q (ap (back_reply past) by ∙ a) ∙ ap (λ t. Some (after_back (condition_of past) t)) by ∙ ap (λ x. Some (after_back x task)) f.1;
-  stays = λ h. back_stays_by before task before.holder (finite.get before.absent task) h;
+  stays = λ h. back_stays_by before task (returning before task) h;
 }

@@ -134,13 +134,21 @@ abbrev pub one_less_wait : AbsentTasks → List ℕ → Absence → AbsentTasks
 one_less_wait absent task a =
     if nat_le a.waits 1 then finite.remove absent task else finite.insert absent task (record { level = a.level; waits = a.waits - 1; notified = a.notified - 1 })
 
-abbrev pub back_by : Option Holder → Option Absence → Ask
-back_by None None = NotYet
-back_by None (Some a) = if nat_lt 0 a.notified then Done reply.Ok else NotYet
-back_by (Some h) a = NotYet
+-- what is kept of it where it may come back
+abbrev pub returning_by : Option Holder → Option Absence → Option Absence
+returning_by None None = None
+returning_by None (Some a) = if nat_lt 0 a.notified then Some a else None
+returning_by (Some h) a = None
+
+abbrev pub returning : Condition → List ℕ → Option Absence
+returning c task = returning_by c.holder (finite.get c.absent task)
+
+abbrev pub back_by : Option Absence → Ask
+back_by None = NotYet
+back_by (Some a) = Done reply.Ok
 
 abbrev pub back_answer : Condition → List ℕ → Ask
-back_answer c task = back_by c.holder (finite.get c.absent task)
+back_answer c task = back_by (returning c task)
 
 abbrev pub back : Condition → List ℕ → Absence → Condition
 back c task a = record {
@@ -149,10 +157,9 @@ back c task a = record {
   absent = one_less_wait c.absent task a;
 }
 
-abbrev pub back_with : Condition → List ℕ → Option Holder → Option Absence → Condition
-back_with c task None None = c
-back_with c task None (Some a) = if nat_lt 0 a.notified then back c task a else c
-back_with c task (Some h) a = c
+abbrev pub back_with : Condition → List ℕ → Option Absence → Condition
+back_with c task None = c
+back_with c task (Some a) = back c task a
 
 abbrev pub after_back : Condition → List ℕ → Condition
-after_back c task = back_with c task c.holder (finite.get c.absent task)
+after_back c task = back_with c task (returning c task)

@@ -7,7 +7,8 @@ ghost use Rattle.jt_base.specs.declared.operation.Op.TheVariants.{Spawn};
 ghost use Rattle.jt_base.specs.declared.object.Object.{Object};
 ghost use Rattle.jt_base.specs.Objects.{object_of};
 ghost use Rattle.jt_base.specs.declared.object.Object.TheVariants.{Task};
-ghost use Rattle.jt_laws.specs.Objects.{Asked, MadeBy};
+ghost use Rattle.jt_laws.specs.Objects.{Allowed, Asked, MadeBy};
+ghost use Rattle.jt_conditions.specs.Answers.{is_done};
 ghost use Rattle.jt_conditions.specs.Completions.{completion_left_by};
 ghost use Rattle.jt_conditions.specs.CompletionSteps.{is_completion_op, begin_answer, begun, running_answer, finished, fetch_answer, wait_answer};
 
@@ -52,6 +53,40 @@ impl Completion {
             Op::Wait(_) => self.outcome(),
             _ => Ask::NotYet,
         }
+    }
+
+    /// Whether `ask` would answer this operation with a reply now.
+    pub fn allows(&self, op: &Op) -> bool
+        ensures law { (path task : List ℕ) → object_of task op.now ≡ Task path → Allowed Completion (completion_left_by path) task op.now self.now result }
+        ensures others { is_completion_op op.now ≡ false → result ≡ false }
+    {
+        match op {
+            Op::Begin => self.is_spawned(),
+            Op::Yield | Op::End(_) | Op::Fail(_) => self.is_running(),
+            Op::Fetch(_) | Op::Wait(_) => self.is_over(),
+            _ => false,
+        }
+    }
+
+    /// Whether the task has not begun.
+    fn is_spawned(&self) -> bool
+        ensures { result ≡ is_done (begin_answer self.now) }
+    {
+        matches!(self, Completion::Spawned)
+    }
+
+    /// Whether the task has begun and is not over.
+    fn is_running(&self) -> bool
+        ensures { result ≡ is_done (running_answer self.now) }
+    {
+        matches!(self, Completion::Running)
+    }
+
+    /// Whether the task ended or failed.
+    fn is_over(&self) -> bool
+        ensures { result ≡ is_done (wait_answer self.now) }
+    {
+        matches!(self, Completion::Ended(_) | Completion::Failed)
     }
 
     /// Begins the task, once.

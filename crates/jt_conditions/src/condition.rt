@@ -8,11 +8,11 @@ ghost use Rattle.jt_base.specs.declared.operation.Reply.TheVariants as reply;
 ghost use Rattle.jt_base.specs.declared.object.Object.{Object};
 ghost use Rattle.jt_base.specs.Objects.{object_of};
 ghost use Rattle.jt_base.specs.declared.object.Object.TheVariants.{Named};
-ghost use Rattle.jt_laws.specs.Objects.{Asked, MadeBy};
+ghost use Rattle.jt_laws.specs.Objects.{Allowed, Asked, MadeBy};
 ghost use Rattle.jt_conditions.specs.Locks.{level_in, reply_to};
-ghost use Rattle.jt_conditions.specs.Conditions.{Condition, condition_left_by, is_condition_op, after_wait, how_many, woken, notify_answer, after_notify, back_answer, after_back};
+ghost use Rattle.jt_conditions.specs.Conditions.{Condition, condition_left_by, is_condition_op, after_wait, how_many, woken, notify_answer, after_notify, returning, back_answer, after_back};
 
-use crate::absence::Absences;
+use crate::absence::{Absence, Absences};
 use crate::lock::Lock;
 use crate::waiting_list::WaitingList;
 use jt_base::{Ask, Op, OutOfMemory, Path, Reply};
@@ -90,6 +90,19 @@ impl CondLock {
         }
     }
 
+    /// Whether `ask` would answer a task's operation with a reply now.
+    pub fn allows(&self, task: &Path, op: &Op) -> bool
+        ensures law { (name : Name) → object_of task.now op.now ≡ Named name → Allowed Condition condition_left_by task.now op.now self.now.state result }
+        ensures others { is_condition_op op.now ≡ false → result ≡ false }
+    {
+        match op {
+            Op::Lock(_) => self.lock.is_free_to(task),
+            Op::CBack(_) => self.returning(task).is_some(),
+            Op::Unlock(_) | Op::CWait(_) | Op::CNotify(_, _) => true,
+            _ => false,
+        }
+    }
+
     /// Gives the lock up, and joins the waiting list.
     fn wait(&mut self, task: &Path) -> Ask
         requires reserved { 0 < self.old.room }
@@ -106,18 +119,27 @@ impl CondLock {
         Ask::Done(Reply::Ok)
     }
 
+    /// What is kept of a task that may take the lock back: it was notified, and the lock is free.
+    fn returning(&self, task: &Path) -> Option<Absence>
+        ensures { result ≡ returning self.now.state task.now }
+    {
+        if !self.lock.is_free() {
+            return None;
+        }
+        match self.absent.get(task) {
+            Some(absence) if absence.notified > 0 => Some(absence),
+            _ => None,
+        }
+    }
+
     /// Takes the lock back after being notified.
     fn back(&mut self, task: &Path) -> Ask
         ensures answer { result ≡ back_answer self.old.state task.now }
         ensures after { self.new.state ≡ after_back self.old.state task.now }
         ensures not_yet { result ≡ NotYet → self.new ≡ self.old }
     {
-        if !self.lock.is_free() {
+        let Some(absence) = self.returning(task) else {
             return Ask::NotYet;
-        }
-        let absence = match self.absent.get(task) {
-            Some(absence) if absence.notified > 0 => absence,
-            _ => return Ask::NotYet,
         };
         self.absent.one_less_wait(task, absence);
         self.lock.hold(task, absence.level);

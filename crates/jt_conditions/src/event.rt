@@ -7,7 +7,7 @@ ghost use Rattle.jt_base.specs.declared.operation.Op.TheVariants.{NewEvent};
 ghost use Rattle.jt_base.specs.declared.object.Object.{Object};
 ghost use Rattle.jt_base.specs.Objects.{object_of};
 ghost use Rattle.jt_base.specs.declared.object.Object.TheVariants.{Named};
-ghost use Rattle.jt_laws.specs.Objects.{Asked, MadeBy};
+ghost use Rattle.jt_laws.specs.Objects.{Allowed, Asked, MadeBy};
 ghost use Rattle.jt_conditions.specs.Events.{EventState, event_left_by, is_event_op, event_wait_answer, event_after_wait};
 
 use jt_base::{Ask, Op, Reply};
@@ -55,6 +55,18 @@ impl Event {
             }
             Op::EWait(_) => self.wait(),
             _ => Ask::NotYet,
+        }
+    }
+
+    /// Whether `ask` would answer this operation with a reply now.
+    pub fn allows(&self, op: &Op) -> bool
+        ensures law { (task : List ℕ) (name : Name) → object_of task op.now ≡ Named name → Allowed EventState event_left_by task op.now self.now result }
+        ensures others { is_event_op op.now ≡ false → result ≡ false }
+    {
+        match op {
+            Op::Notify(_) | Op::Reset(_) => true,
+            Op::EWait(_) => self.set,
+            _ => false,
         }
     }
 

@@ -9,7 +9,8 @@ ghost use Rattle.jt_base.specs.declared.object.Object.{Object};
 ghost use Rattle.jt_base.specs.Objects.{object_of};
 ghost use Rattle.jt_laws.specs.Entries.{same_path};
 ghost use Rattle.jt_base.specs.declared.object.Object.TheVariants.{Named};
-ghost use Rattle.jt_laws.specs.Objects.{Asked, MadeBy};
+ghost use Rattle.jt_laws.specs.Objects.{Allowed, Asked, MadeBy};
+ghost use Rattle.jt_conditions.specs.Answers.{is_done};
 ghost use Rattle.jt_conditions.specs.Locks.{Holder, is_lock_op, lock_left_by, level_in, lock_answer, after_lock, reply_to, after_unlock, holding};
 
 use jt_base::{Ask, Op, Path, Reply};
@@ -69,6 +70,28 @@ impl Lock {
             Op::Lock(_) => self.lock(task),
             Op::Unlock(_) => self.unlock(task),
             _ => Ask::NotYet,
+        }
+    }
+
+    /// Whether `ask` would answer a task's operation with a reply now.
+    pub fn allows(&self, task: &Path, op: &Op) -> bool
+        ensures law { (name : Name) → object_of task.now op.now ≡ Named name → Allowed (Option Holder) lock_left_by task.now op.now self.now result }
+        ensures others { is_lock_op op.now ≡ false → result ≡ false }
+    {
+        match op {
+            Op::Lock(_) => self.is_free_to(task),
+            Op::Unlock(_) => true,
+            _ => false,
+        }
+    }
+
+    /// Whether no other task holds the lock.
+    pub(crate) fn is_free_to(&self, task: &Path) -> bool
+        ensures { result ≡ is_done (lock_answer self.now task.now) }
+    {
+        match &self.hold {
+            None => true,
+            Some(hold) => hold.is_of(task),
         }
     }
 

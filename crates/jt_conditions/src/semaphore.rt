@@ -7,7 +7,7 @@ ghost use Rattle.jt_base.specs.declared.operation.Op.TheVariants.{NewSemaphore};
 ghost use Rattle.jt_base.specs.declared.object.Object.{Object};
 ghost use Rattle.jt_base.specs.Objects.{object_of};
 ghost use Rattle.jt_base.specs.declared.object.Object.TheVariants.{Named};
-ghost use Rattle.jt_laws.specs.Objects.{Asked, MadeBy};
+ghost use Rattle.jt_laws.specs.Objects.{Allowed, Asked, MadeBy};
 ghost use Rattle.jt_conditions.specs.Semaphores.{Semaphore, semaphore_left_by, is_semaphore_op, acquire_answer, after_acquire, release_answer, after_release};
 
 use jt_base::{Ask, Op, Reply};
@@ -49,6 +49,18 @@ impl Sema {
             Op::Acquire(_) => self.acquire(),
             Op::Release(_) => self.release(),
             _ => Ask::NotYet,
+        }
+    }
+
+    /// Whether `ask` would answer this operation with a reply now.
+    pub fn allows(&self, op: &Op) -> bool
+        ensures law { (task : List ℕ) (name : Name) → object_of task op.now ≡ Named name → Allowed Semaphore semaphore_left_by task op.now self.now result }
+        ensures others { is_semaphore_op op.now ≡ false → result ≡ false }
+    {
+        match op {
+            Op::Acquire(_) => self.held < self.count,
+            Op::Release(_) => true,
+            _ => false,
         }
     }
 
