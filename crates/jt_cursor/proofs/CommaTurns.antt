@@ -7,9 +7,9 @@ use Rattle.jt_syntax.specs.View.{trees_of}
 use Rattle.jt_syntax.specs.declared.token.Sign.TheVariants as sign
 use Rattle.jt_syntax.specs.declared.token.Token.{Token}
 use Rattle.jt_grammar.specs.Reader.{Outcome, Parser, spent, kind_of, is, skip, gather, comma_list, commas_from}
-use Rattle.jt_cursor.specs.declared.fault.Fault.{Fault}
-use Rattle.jt_cursor.specs.declared.fault.Fault.TheVariants as fault
-use Rattle.jt_cursor.specs.Reads.{Fails}
+use Rattle.jt_cursor.specs.declared.failure.Failure.{Failure}
+use Rattle.jt_cursor.specs.declared.failure.Failure.TheVariants as failure
+use Rattle.jt_cursor.specs.Parses.{Fails}
 use Rattle.jt_cursor.proofs.Lists.{commas_one}
 use Rattle.jt_cursor.proofs.Starts.{one_more, no_more}
 
@@ -36,20 +36,20 @@ module _ {A B X : Type 0} (view : X → A) (item : Parser A) (none : B) (one : A
     commas_done e = turn ∙ rw e
 
     module _ (comma : is sign.Comma (kind_of ts) ≡ true) where
-      pub comma_refused : (f : Fault) → Fails f (skip ts) → Fails f o
+      pub comma_refused : (f : Failure) → Fails f (skip ts) → Fails f o
       unfolding commas_from
-      comma_refused fault.OutOfMemory h = tt
-      comma_refused (fault.Unexpected left) h = turn ∙ rw (comma, h)
-      comma_refused (fault.TooDeep left) h = turn ∙ rw (comma, h)
-      comma_refused fault.Spent h = turn ∙ rw (comma, h)
+      comma_refused failure.OutOfMemory h = tt
+      comma_refused (failure.Unexpected left) h = turn ∙ rw (comma, h)
+      comma_refused (failure.TooDeep left) h = turn ∙ rw (comma, h)
+      comma_refused failure.Spent h = turn ∙ rw (comma, h)
 
       module _ (t : Token) (ts1 : List Token) (skips : skip ts ≡ Ok (t, ts1)) where
-        pub commas_refused : (f : Fault) → Fails f (item ts1) → Fails f o
+        pub commas_refused : (f : Failure) → Fails f (item ts1) → Fails f o
         unfolding commas_from
-        commas_refused fault.OutOfMemory h = tt
-        commas_refused (fault.Unexpected left) h = turn ∙ rw (comma, skips, h)
-        commas_refused (fault.TooDeep left) h = turn ∙ rw (comma, skips, h)
-        commas_refused fault.Spent h = turn ∙ rw (comma, skips, h)
+        commas_refused failure.OutOfMemory h = tt
+        commas_refused (failure.Unexpected left) h = turn ∙ rw (comma, skips, h)
+        commas_refused (failure.TooDeep left) h = turn ∙ rw (comma, skips, h)
+        commas_refused failure.Spent h = turn ∙ rw (comma, skips, h)
 
         pub commas_go : (x : X) (new : List X) (ts2 : List Token) → item ts1 ≡ Ok (view x, ts2) → new ≡ found ++ x ∷ [] → o ≡ commas_from item none one (n - (at + 1)) (map view new) ts2
         unfolding commas_from

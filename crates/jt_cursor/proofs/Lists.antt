@@ -7,9 +7,9 @@ use Rattle.jt_syntax.specs.View.{steps_of}
 use Rattle.jt_syntax.specs.declared.token.Sign.TheVariants as sign
 use Rattle.jt_syntax.specs.declared.token.Token.{Token}
 use Rattle.jt_grammar.specs.Reader.{Outcome, Parser, spent, and_then, ◌>>=◌, pure, kind_of, is, skip, ends, gap, gather, list_of, list_from, commas, commas_from}
-use Rattle.jt_cursor.specs.declared.fault.Fault.{Fault}
-use Rattle.jt_cursor.specs.declared.fault.Fault.TheVariants as fault
-use Rattle.jt_cursor.specs.Reads.{Fails}
+use Rattle.jt_cursor.specs.declared.failure.Failure.{Failure}
+use Rattle.jt_cursor.specs.declared.failure.Failure.TheVariants as failure
+use Rattle.jt_cursor.specs.Parses.{Fails}
 use Rattle.jt_cursor.proofs.Starts.{one_more, no_more}
 
 -- ---- what was found before stands in front
@@ -87,20 +87,20 @@ module _ {A B X : Type 0} (view : X → A) (turns : ℕ) (item : Parser A) (none
     list_done e = turn ∙ rw e
 
     module _ (open_still : ends (kind_of ts) ≡ false) where
-      pub list_refused : (f : Fault) → Fails f (item ts) → Fails f o
+      pub list_refused : (f : Failure) → Fails f (item ts) → Fails f o
       unfolding list_from
-      list_refused fault.OutOfMemory h = tt
-      list_refused (fault.Unexpected left) h = turn ∙ rw (open_still, h)
-      list_refused (fault.TooDeep left) h = turn ∙ rw (open_still, h)
-      list_refused fault.Spent h = turn ∙ rw (open_still, h)
+      list_refused failure.OutOfMemory h = tt
+      list_refused (failure.Unexpected left) h = turn ∙ rw (open_still, h)
+      list_refused (failure.TooDeep left) h = turn ∙ rw (open_still, h)
+      list_refused failure.Spent h = turn ∙ rw (open_still, h)
 
       module _ (x : X) (ts1 : List Token) (reads : item ts ≡ Ok (view x, ts1)) where
-        pub list_gap_refused : (f : Fault) → Fails f (gap turns ts1) → Fails f o
+        pub list_gap_refused : (f : Failure) → Fails f (gap turns ts1) → Fails f o
         unfolding list_from
-        list_gap_refused fault.OutOfMemory h = tt
-        list_gap_refused (fault.Unexpected left) h = turn ∙ rw (open_still, reads, h)
-        list_gap_refused (fault.TooDeep left) h = turn ∙ rw (open_still, reads, h)
-        list_gap_refused fault.Spent h = turn ∙ rw (open_still, reads, h)
+        list_gap_refused failure.OutOfMemory h = tt
+        list_gap_refused (failure.Unexpected left) h = turn ∙ rw (open_still, reads, h)
+        list_gap_refused (failure.TooDeep left) h = turn ∙ rw (open_still, reads, h)
+        list_gap_refused failure.Spent h = turn ∙ rw (open_still, reads, h)
 
         module _ (new : List X) (ts2 : List Token) (pushes : new ≡ found ++ x ∷ []) where
           pushed : map view new ≡ map view found ++ view x ∷ []
@@ -165,20 +165,20 @@ module _ {A B : Type 0} (item : Parser A) (none : B) (one : A → B → B) (n at
     commas_done e = comma_next ∙ rw e
 
     module _ (comma : is sign.Comma (kind_of ts) ≡ true) where
-      pub comma_refused : (f : Fault) → Fails f (skip ts) → Fails f o
+      pub comma_refused : (f : Failure) → Fails f (skip ts) → Fails f o
       unfolding commas_from
-      comma_refused fault.OutOfMemory h = tt
-      comma_refused (fault.Unexpected left) h = comma_next ∙ rw (comma, h)
-      comma_refused (fault.TooDeep left) h = comma_next ∙ rw (comma, h)
-      comma_refused fault.Spent h = comma_next ∙ rw (comma, h)
+      comma_refused failure.OutOfMemory h = tt
+      comma_refused (failure.Unexpected left) h = comma_next ∙ rw (comma, h)
+      comma_refused (failure.TooDeep left) h = comma_next ∙ rw (comma, h)
+      comma_refused failure.Spent h = comma_next ∙ rw (comma, h)
 
       module _ (t : Token) (ts1 : List Token) (skips : skip ts ≡ Ok (t, ts1)) where
-        pub item_refused : (f : Fault) → Fails f (item ts1) → Fails f o
+        pub item_refused : (f : Failure) → Fails f (item ts1) → Fails f o
         unfolding commas_from
-        item_refused fault.OutOfMemory h = tt
-        item_refused (fault.Unexpected left) h = comma_next ∙ rw (comma, skips, h)
-        item_refused (fault.TooDeep left) h = comma_next ∙ rw (comma, skips, h)
-        item_refused fault.Spent h = comma_next ∙ rw (comma, skips, h)
+        item_refused failure.OutOfMemory h = tt
+        item_refused (failure.Unexpected left) h = comma_next ∙ rw (comma, skips, h)
+        item_refused (failure.TooDeep left) h = comma_next ∙ rw (comma, skips, h)
+        item_refused failure.Spent h = comma_next ∙ rw (comma, skips, h)
 
         pub commas_go : (x : A) (ts2 : List Token) → item ts1 ≡ Ok (x, ts2) → (new : List A) → new ≡ found ++ x ∷ [] → o ≡ commas_from item none one (n - (at + 1)) new ts2
         unfolding commas_from

@@ -2,5 +2,5 @@ pub mod Commas
 pub mod Kinds
 pub mod Names
 pub mod Operators
-pub mod Reads
+pub mod Parses
 pub mod Tokens

@@ -5,9 +5,9 @@ ghost use Rattle.std.specs.Str.{bytes_eq};
 ghost use Rattle.jt_grammar.specs.Reader as spec;
 ghost use Rattle.jt_cursor.specs.Kinds.{kind_view};
 ghost use Rattle.jt_cursor.specs.Tokens.{now};
-ghost use Rattle.jt_cursor.specs.Reads.{Reads, same};
+ghost use Rattle.jt_cursor.specs.Parses.{Parses, same};
 
-use crate::fault::Fault;
+use crate::failure::Failure;
 use jt_syntax::{Identifier, Sign, Token, TokenKind};
 use sqlite_items::Items;
 use std::alloc::Global;
@@ -98,7 +98,7 @@ impl<'a> Cursor<'a> {
     }
 
     /// How many tokens are still to be read.
-    pub fn left(&self) -> usize
+    pub(crate) fn left(&self) -> usize
         ensures { result ≡ length self.now }
     {
         self.rest.len()
@@ -137,18 +137,18 @@ impl<'a> Cursor<'a> {
     }
 
     /// Why the next token is not taken: it is unexpected.
-    pub fn refuse(&self) -> Fault
-        ensures { result ≡ Fault.Unexpected (length self.now) }
+    pub fn refuse(&self) -> Failure
+        ensures { result ≡ Failure.Unexpected (length self.now) }
     {
-        Fault::Unexpected(self.left())
+        Failure::Unexpected(self.left())
     }
 
     /// The next token, whatever it is.
-    pub fn skip(&mut self) -> Result<&'a Token, Fault>
-        ensures { Reads now (spec.skip self.old) result self.new }
+    pub fn skip(&mut self) -> Result<&'a Token, Failure>
+        ensures { Parses now (spec.skip self.old) result self.new }
     {
         match self.rest {
-            [] => Err(Fault::Unexpected(0)),
+            [] => Err(Failure::Unexpected(0)),
             [token, rest @ ..] => {
                 self.rest = rest;
                 Ok(*token)
@@ -157,8 +157,8 @@ impl<'a> Cursor<'a> {
     }
 
     /// This sign, which must come next.
-    pub fn expect(&mut self, sign: Sign) -> Result<&'a Token, Fault>
-        ensures { Reads now (spec.expect sign self.old) result self.new }
+    pub fn expect(&mut self, sign: Sign) -> Result<&'a Token, Failure>
+        ensures { Parses now (spec.expect sign self.old) result self.new }
     {
         if self.sees(sign) {
             self.skip()
@@ -168,19 +168,19 @@ impl<'a> Cursor<'a> {
     }
 
     /// Whether one opener more may be open where so many still may.
-    pub fn enter(&self, depth: usize) -> Result<(), Fault>
-        ensures { Reads same (spec.enter depth self.now) result self.now }
+    pub fn enter(&self, depth: usize) -> Result<(), Failure>
+        ensures { Parses same (spec.enter depth self.now) result self.now }
     {
         if depth == 0 {
-            Err(Fault::TooDeep(self.left()))
+            Err(Failure::TooDeep(self.left()))
         } else {
             Ok(())
         }
     }
 
     /// An opener that is expected where so many more may be open.
-    pub fn opening(&mut self, depth: usize, sign: Sign) -> Result<&'a Token, Fault>
-        ensures { Reads now (spec.opening depth sign self.old) result self.new }
+    pub fn opening(&mut self, depth: usize, sign: Sign) -> Result<&'a Token, Failure>
+        ensures { Parses now (spec.opening depth sign self.old) result self.new }
     {
         if !self.sees(sign) {
             return Err(self.refuse());
@@ -191,8 +191,8 @@ impl<'a> Cursor<'a> {
 
     /// A name.
     #[tactic(auto, unfolding(jt_grammar::specs::Reader::word))]
-    pub fn word(&mut self, alloc: Global) -> Result<Identifier, Fault>
-        ensures { Reads same (spec.word self.old) result self.new }
+    pub fn word(&mut self, alloc: Global) -> Result<Identifier, Failure>
+        ensures { Parses same (spec.word self.old) result self.new }
     {
         match self.kind() {
             Kind::Name(name) => {
@@ -208,8 +208,8 @@ impl<'a> Cursor<'a> {
 
     /// These letters as a name.
     #[tactic(auto, unfolding(jt_grammar::specs::Reader::letters))]
-    pub fn letters(&mut self, word: &[u8]) -> Result<&'a Token, Fault>
-        ensures { Reads now (spec.letters word.now self.old) result self.new }
+    pub fn letters(&mut self, word: &[u8]) -> Result<&'a Token, Failure>
+        ensures { Parses now (spec.letters word.now self.old) result self.new }
     {
         match self.kind() {
             Kind::Name(name) if name == word => self.skip(),
@@ -222,8 +222,8 @@ impl<'a> Cursor<'a> {
 
     /// A string's bytes.
     #[tactic(auto, unfolding(jt_grammar::specs::Reader::quoted))]
-    pub fn quoted(&mut self, alloc: Global) -> Result<Items<u8>, Fault>
-        ensures { Reads same (spec.quoted self.old) result self.new }
+    pub fn quoted(&mut self, alloc: Global) -> Result<Items<u8>, Failure>
+        ensures { Parses same (spec.quoted self.old) result self.new }
     {
         match self.kind() {
             Kind::Text(text) => {
@@ -238,8 +238,8 @@ impl<'a> Cursor<'a> {
 
     /// `true` or `false`
     #[tactic(auto, unfolding(jt_grammar::specs::Reader::truth))]
-    pub fn truth(&mut self) -> Result<bool, Fault>
-        ensures { Reads same (spec.truth self.old) result self.new }
+    pub fn truth(&mut self) -> Result<bool, Failure>
+        ensures { Parses same (spec.truth self.old) result self.new }
     {
         if self.sees(Sign::True) {
             self.skip()?;
@@ -251,14 +251,14 @@ impl<'a> Cursor<'a> {
 
     /// Skips the separators that come next; whether there are any.
     #[tactic(auto, using(crate::proofs::Starts::gap_start))]
-    pub fn gap(&mut self, turns: usize) -> Result<bool, Fault>
-        ensures { Reads same (spec.gap turns self.old) result self.new }
+    pub fn gap(&mut self, turns: usize) -> Result<bool, Failure>
+        ensures { Parses same (spec.gap turns self.old) result self.new }
     {
         self.gap_from(turns)
     }
 
-    fn gap_from(&mut self, turns: usize) -> Result<bool, Fault>
-        ensures { Reads same (spec.gap_from turns false self.old) result self.new }
+    fn gap_from(&mut self, turns: usize) -> Result<bool, Failure>
+        ensures { Parses same (spec.gap_from turns false self.old) result self.new }
     {
         let mut any = false;
         for _turn in 0..turns {
@@ -268,6 +268,6 @@ impl<'a> Cursor<'a> {
             self.skip()?;
             any = true;
         }
-        Err(Fault::Spent)
+        Err(Failure::Spent)
     }
 }

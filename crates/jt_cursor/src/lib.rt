@@ -4,14 +4,14 @@
 
 mod comma;
 mod cursor;
-mod fault;
+mod failure;
 mod lines;
 mod operator;
 mod targets;
 
 pub use comma::comma_list;
 pub use cursor::{Cursor, Kind, ends, is_jump, is_separator, is_spelled};
-pub use fault::Fault;
+pub use failure::Failure;
 pub use lines::join;
 pub use operator::{operator_in, power_sign, unary_sign};
 pub use targets::{is_sum, name_of, step_target, target};

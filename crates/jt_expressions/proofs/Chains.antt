@@ -17,9 +17,9 @@ use Rattle.jt_grammar.specs.declared.Level.{Level}
 use Rattle.jt_grammar.specs.Reader.{Outcome, Parser, spent, and_then, ◌>>=◌, pure, kind_of, skip, is_of, operator_of, operates, terms, terms_from, guarded_terms, guarded_from, is_jump, chained, joined_chain, shift, product, sum, comparison, conjunction, disjunction}
 use Rattle.jt_cursor.specs.Operators.{operator_in}
 use Rattle.jt_expressions.specs.Chains.{chain_of, terms_view, tighter_than}
-use Rattle.jt_cursor.specs.declared.fault.Fault.{Fault}
-use Rattle.jt_cursor.specs.declared.fault.Fault.TheVariants as fault
-use Rattle.jt_cursor.specs.Reads.{Fails}
+use Rattle.jt_cursor.specs.declared.failure.Failure.{Failure}
+use Rattle.jt_cursor.specs.declared.failure.Failure.TheVariants as failure
+use Rattle.jt_cursor.specs.Parses.{Fails}
 use Rattle.jt_cursor.proofs.Starts.{ok_then, one_more, no_more}
 
 -- ---- a chain is longer than what stands beside its operators
@@ -146,20 +146,20 @@ module _ (c : Class) (item : Parser Tree) (n at : ℕ) (found : List (BinaryOper
       terms_sign : operates c (kind_of ts) ≡ true
       terms_sign = (operator_found c (kind_of ts) s some).0
 
-      pub operator_refused : (f : Fault) → Fails f (skip ts) → Fails f o
+      pub operator_refused : (f : Failure) → Fails f (skip ts) → Fails f o
       unfolding terms_from
-      operator_refused fault.OutOfMemory h = tt
-      operator_refused (fault.Unexpected left) h = terms_next ∙ rw (terms_sign, h)
-      operator_refused (fault.TooDeep left) h = terms_next ∙ rw (terms_sign, h)
-      operator_refused fault.Spent h = terms_next ∙ rw (terms_sign, h)
+      operator_refused failure.OutOfMemory h = tt
+      operator_refused (failure.Unexpected left) h = terms_next ∙ rw (terms_sign, h)
+      operator_refused (failure.TooDeep left) h = terms_next ∙ rw (terms_sign, h)
+      operator_refused failure.Spent h = terms_next ∙ rw (terms_sign, h)
 
       module _ (t : Token) (ts1 : List Token) (skips : skip ts ≡ Ok (t, ts1)) where
-        pub operand_refused : (f : Fault) → Fails f (item ts1) → Fails f o
+        pub operand_refused : (f : Failure) → Fails f (item ts1) → Fails f o
         unfolding terms_from
-        operand_refused fault.OutOfMemory h = tt
-        operand_refused (fault.Unexpected left) h = terms_next ∙ rw (terms_sign, skips, h)
-        operand_refused (fault.TooDeep left) h = terms_next ∙ rw (terms_sign, skips, h)
-        operand_refused fault.Spent h = terms_next ∙ rw (terms_sign, skips, h)
+        operand_refused failure.OutOfMemory h = tt
+        operand_refused (failure.Unexpected left) h = terms_next ∙ rw (terms_sign, skips, h)
+        operand_refused (failure.TooDeep left) h = terms_next ∙ rw (terms_sign, skips, h)
+        operand_refused failure.Spent h = terms_next ∙ rw (terms_sign, skips, h)
 
         pub terms_go : (e : Expr) (ts2 : List Token) → item ts1 ≡ Ok (view e, ts2) → (new : List (BinaryOperator × Expr)) → new ≡ found ++ (s, e) ∷ [] → o ≡ terms_from c item (n - (at + 1)) (map term_view new) ts2
         terms_go e ts2 reads new pushes =
@@ -186,11 +186,11 @@ module _ (turns depth : ℕ) (expr_in : Level → Parser Tree) (step_in : Parser
       chain_reads c ts
       ∙ ok_then (tighter_than turns depth expr_in step_in c ts) e ts1 _ _ reads (ap (λ o. and_then o (λ es. pure (joined_chain c e es))) (sym (terms_start c (tighter_than turns depth expr_in step_in c) turns ts1)))
 
-  pub chain_refused : (c : Class) (ts : List Token) (f : Fault) → Fails f (tighter_than turns depth expr_in step_in c ts) → Fails f (chain_of turns depth expr_in step_in c ts)
-  chain_refused c ts fault.OutOfMemory h = tt
-  chain_refused c ts (fault.Unexpected left) h = rw (chain_reads c ts, h)
-  chain_refused c ts (fault.TooDeep left) h = rw (chain_reads c ts, h)
-  chain_refused c ts fault.Spent h = rw (chain_reads c ts, h)
+  pub chain_refused : (c : Class) (ts : List Token) (f : Failure) → Fails f (tighter_than turns depth expr_in step_in c ts) → Fails f (chain_of turns depth expr_in step_in c ts)
+  chain_refused c ts failure.OutOfMemory h = tt
+  chain_refused c ts (failure.Unexpected left) h = rw (chain_reads c ts, h)
+  chain_refused c ts (failure.TooDeep left) h = rw (chain_reads c ts, h)
+  chain_refused c ts failure.Spent h = rw (chain_reads c ts, h)
 
 pub joined_views : (c : Class) (e : Tree) (es : List (BinaryOperator × Expr)) (b : Bool) → b ≡ false → IsTrue b ↔ (es ≡ []) → tree.chain c e (terms_view es) ≡ joined_chain c e (terms_view es)
 joined_views c e es true h i = absurd (true≢false h)
@@ -264,12 +264,12 @@ module _ (c : Class) (item : Parser Tree) (n at : ℕ) (found : List (BinaryOper
       guarded_sign : operates c (kind_of ts) ≡ true
       guarded_sign = (operator_found c (kind_of ts) s some).0
 
-      pub connective_refused : (f : Fault) → Fails f (skip ts) → Fails f o
+      pub connective_refused : (f : Failure) → Fails f (skip ts) → Fails f o
       unfolding guarded_from
-      connective_refused fault.OutOfMemory h = tt
-      connective_refused (fault.Unexpected left) h = guarded_next ∙ rw (guarded_sign, h)
-      connective_refused (fault.TooDeep left) h = guarded_next ∙ rw (guarded_sign, h)
-      connective_refused fault.Spent h = guarded_next ∙ rw (guarded_sign, h)
+      connective_refused failure.OutOfMemory h = tt
+      connective_refused (failure.Unexpected left) h = guarded_next ∙ rw (guarded_sign, h)
+      connective_refused (failure.TooDeep left) h = guarded_next ∙ rw (guarded_sign, h)
+      connective_refused failure.Spent h = guarded_next ∙ rw (guarded_sign, h)
 
       module _ (t : Token) (ts1 : List Token) (skips : skip ts ≡ Ok (t, ts1)) where
         pub guarded_jumps : is_jump (kind_of ts1) ≡ true → o ≡ Ok ((terms_view found, true), ts1)
@@ -277,12 +277,12 @@ module _ (c : Class) (item : Parser Tree) (n at : ℕ) (found : List (BinaryOper
         guarded_jumps jumps = guarded_next ∙ rw (guarded_sign, skips, jumps)
 
         module _ (stays : is_jump (kind_of ts1) ≡ false) where
-          pub guarded_refused : (f : Fault) → Fails f (item ts1) → Fails f o
+          pub guarded_refused : (f : Failure) → Fails f (item ts1) → Fails f o
           unfolding guarded_from
-          guarded_refused fault.OutOfMemory h = tt
-          guarded_refused (fault.Unexpected left) h = guarded_next ∙ rw (guarded_sign, skips, stays, h)
-          guarded_refused (fault.TooDeep left) h = guarded_next ∙ rw (guarded_sign, skips, stays, h)
-          guarded_refused fault.Spent h = guarded_next ∙ rw (guarded_sign, skips, stays, h)
+          guarded_refused failure.OutOfMemory h = tt
+          guarded_refused (failure.Unexpected left) h = guarded_next ∙ rw (guarded_sign, skips, stays, h)
+          guarded_refused (failure.TooDeep left) h = guarded_next ∙ rw (guarded_sign, skips, stays, h)
+          guarded_refused failure.Spent h = guarded_next ∙ rw (guarded_sign, skips, stays, h)
 
           pub guarded_go : (e : Expr) (ts2 : List Token) → item ts1 ≡ Ok (view e, ts2) → (new : List (BinaryOperator × Expr)) → new ≡ found ++ (s, e) ∷ [] → o ≡ guarded_from c item (n - (at + 1)) (map term_view new) ts2
           guarded_go e ts2 reads new pushes =

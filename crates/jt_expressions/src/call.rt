@@ -4,19 +4,19 @@ ghost use Rattle.jt_syntax.specs.View.{views};
 ghost use Rattle.jt_grammar.specs.Reader as spec;
 ghost use Rattle.jt_syntax.specs.View.{view};
 ghost use Rattle.jt_expressions.specs.Nested.{nested};
-ghost use Rattle.jt_cursor.specs.Reads.{Reads};
+ghost use Rattle.jt_cursor.specs.Parses.{Parses};
 
 use crate::notified::{notified_alone, notified_with_all};
 use crate::rules::{Nested, Rules};
-use jt_cursor::{Cursor, Fault, comma_list};
+use jt_cursor::{Cursor, Failure, comma_list};
 use jt_grammar::Level;
 use jt_syntax::{Expr, Identifier, Sign};
 use sqlite_items::{Boxed, Items};
 
 impl<N: Nested> Rules<N> {
-    fn arguments(&self, tokens: &mut Cursor<'_>) -> Result<Items<Boxed<Expr>>, Fault>
+    fn arguments(&self, tokens: &mut Cursor<'_>) -> Result<Items<Boxed<Expr>>, Failure>
         requires { N.nests self.now.nested self.now.turns self.now.depth }
-        ensures { Reads views (nested spec.arguments self.now.turns self.now.depth tokens.old) result tokens.new }
+        ensures { Parses views (nested spec.arguments self.now.turns self.now.depth tokens.old) result tokens.new }
     {
         comma_list(
             self.alloc,
@@ -31,8 +31,8 @@ impl<N: Nested> Rules<N> {
         &self,
         tokens: &mut Cursor<'_>,
         condition: Boxed<Expr>,
-    ) -> Result<Boxed<Expr>, Fault>
-        ensures { Reads view (nested spec.notify_all self.now.turns self.now.depth (view condition) tokens.old) result tokens.new }
+    ) -> Result<Boxed<Expr>, Failure>
+        ensures { Parses view (nested spec.notify_all self.now.turns self.now.depth (view condition) tokens.old) result tokens.new }
     {
         tokens.expect(Sign::Assign)?;
         let all = tokens.truth()?;
@@ -46,8 +46,8 @@ impl<N: Nested> Rules<N> {
         tokens: &mut Cursor<'_>,
         name: &Identifier,
         arguments: Items<Boxed<Expr>>,
-    ) -> Result<Boxed<Expr>, Fault>
-        ensures { Reads view (nested spec.with_all self.now.turns self.now.depth (spec.notified_with_all name.now (views arguments)) tokens.old) result tokens.new }
+    ) -> Result<Boxed<Expr>, Failure>
+        ensures { Parses view (nested spec.with_all self.now.turns self.now.depth (spec.notified_with_all name.now (views arguments)) tokens.old) result tokens.new }
     {
         match notified_with_all(name, arguments) {
             Some(condition) => self.notify_all(tokens, condition),
@@ -61,8 +61,8 @@ impl<N: Nested> Rules<N> {
         tokens: &mut Cursor<'_>,
         name: &Identifier,
         arguments: Items<Boxed<Expr>>,
-    ) -> Result<Boxed<Expr>, Fault>
-        ensures { Reads view (nested spec.alone self.now.turns self.now.depth (spec.notified_alone name.now (views arguments)) tokens.old) result tokens.new }
+    ) -> Result<Boxed<Expr>, Failure>
+        ensures { Parses view (nested spec.alone self.now.turns self.now.depth (spec.notified_alone name.now (views arguments)) tokens.old) result tokens.new }
     {
         match notified_alone(name, arguments) {
             Some(condition) => {
@@ -80,8 +80,8 @@ impl<N: Nested> Rules<N> {
         tokens: &mut Cursor<'_>,
         name: Identifier,
         arguments: Items<Boxed<Expr>>,
-    ) -> Result<Boxed<Expr>, Fault>
-        ensures { Reads view (nested spec.call_ended self.now.turns self.now.depth name (views arguments) tokens.old) result tokens.new }
+    ) -> Result<Boxed<Expr>, Failure>
+        ensures { Parses view (nested spec.call_ended self.now.turns self.now.depth name (views arguments) tokens.old) result tokens.new }
     {
         if tokens.sees(Sign::Close) {
             tokens.skip()?;
@@ -96,17 +96,17 @@ impl<N: Nested> Rules<N> {
         Err(tokens.refuse())
     }
 
-    fn called(&self, tokens: &mut Cursor<'_>, name: Identifier) -> Result<Boxed<Expr>, Fault>
+    fn called(&self, tokens: &mut Cursor<'_>, name: Identifier) -> Result<Boxed<Expr>, Failure>
         requires { N.nests self.now.nested self.now.turns self.now.depth }
-        ensures { Reads view (nested spec.called self.now.turns self.now.depth name tokens.old) result tokens.new }
+        ensures { Parses view (nested spec.called self.now.turns self.now.depth name tokens.old) result tokens.new }
     {
         tokens.opening(self.depth, Sign::Open)?;
         let arguments = self.arguments(tokens)?;
         self.call_ended(tokens, name, arguments)
     }
 
-    fn element(&self, tokens: &mut Cursor<'_>, name: Identifier) -> Result<Boxed<Expr>, Fault>
-        ensures { Reads view (nested spec.element self.now.turns self.now.depth name tokens.old) result tokens.new }
+    fn element(&self, tokens: &mut Cursor<'_>, name: Identifier) -> Result<Boxed<Expr>, Failure>
+        ensures { Parses view (nested spec.element self.now.turns self.now.depth name tokens.old) result tokens.new }
     {
         tokens.opening(self.depth, Sign::OpenSquare)?;
         tokens.expect(Sign::CloseSquare)?;
@@ -114,9 +114,9 @@ impl<N: Nested> Rules<N> {
     }
 
     /// A name, a call or the value of an atomic.
-    pub(crate) fn named(&self, tokens: &mut Cursor<'_>) -> Result<Boxed<Expr>, Fault>
+    pub(crate) fn named(&self, tokens: &mut Cursor<'_>) -> Result<Boxed<Expr>, Failure>
         requires { N.nests self.now.nested self.now.turns self.now.depth }
-        ensures { Reads view (nested spec.named self.now.turns self.now.depth tokens.old) result tokens.new }
+        ensures { Parses view (nested spec.named self.now.turns self.now.depth tokens.old) result tokens.new }
     {
         let name = tokens.word(self.alloc)?;
         if tokens.sees(Sign::Open) {

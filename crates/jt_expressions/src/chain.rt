@@ -5,10 +5,10 @@ ghost use Rattle.jt_grammar.specs.Reader as spec;
 ghost use Rattle.jt_syntax.specs.View.{view};
 ghost use Rattle.jt_expressions.specs.Chains.{chain_of, terms_view, tighter_than};
 ghost use Rattle.jt_expressions.specs.Nested.{nested};
-ghost use Rattle.jt_cursor.specs.Reads.{Reads};
+ghost use Rattle.jt_cursor.specs.Parses.{Parses};
 
 use crate::rules::{Nested, Rules};
-use jt_cursor::{Cursor, Fault, operator_in};
+use jt_cursor::{Cursor, Failure, operator_in};
 use jt_syntax::{BinaryOperator, Class, Expr};
 use sqlite_items::{Boxed, Items};
 use std::alloc::{AllocError, Global};
@@ -31,9 +31,9 @@ pub fn joined(
 impl<N: Nested> Rules<N> {
     /// Operands with operators of the class between.
     #[cycle(chains)]
-    pub fn chain(&self, tokens: &mut Cursor<'_>, class: Class) -> Result<Boxed<Expr>, Fault>
+    pub fn chain(&self, tokens: &mut Cursor<'_>, class: Class) -> Result<Boxed<Expr>, Failure>
         requires { N.nests self.now.nested self.now.turns self.now.depth }
-        ensures { Reads view (nested chain_of self.now.turns self.now.depth class tokens.old) result tokens.new }
+        ensures { Parses view (nested chain_of self.now.turns self.now.depth class tokens.old) result tokens.new }
     {
         let first = self.tighter(tokens, class)?;
         let more = self.terms(tokens, class)?;
@@ -46,9 +46,9 @@ impl<N: Nested> Rules<N> {
         &self,
         tokens: &mut Cursor<'_>,
         class: Class,
-    ) -> Result<Items<(BinaryOperator, Boxed<Expr>)>, Fault>
+    ) -> Result<Items<(BinaryOperator, Boxed<Expr>)>, Failure>
         requires { N.nests self.now.nested self.now.turns self.now.depth }
-        ensures { Reads terms_view (spec.terms_from class (nested tighter_than self.now.turns self.now.depth class) self.now.turns [] tokens.old) result tokens.new }
+        ensures { Parses terms_view (spec.terms_from class (nested tighter_than self.now.turns self.now.depth class) self.now.turns [] tokens.old) result tokens.new }
     {
         let mut found = Items::new(self.alloc);
         for _turn in 0..self.turns {
@@ -59,7 +59,7 @@ impl<N: Nested> Rules<N> {
             let operand = self.tighter(tokens, class)?;
             found.push((operator, operand))?;
         }
-        Err(Fault::Spent)
+        Err(Failure::Spent)
     }
 
     /// What may stand beside an operator of the class.
@@ -68,9 +68,9 @@ impl<N: Nested> Rules<N> {
         &self,
         tokens: &mut Cursor<'_>,
         class: Class,
-    ) -> Result<Boxed<Expr>, Fault>
+    ) -> Result<Boxed<Expr>, Failure>
         requires { N.nests self.now.nested self.now.turns self.now.depth }
-        ensures { Reads view (nested tighter_than self.now.turns self.now.depth class tokens.old) result tokens.new }
+        ensures { Parses view (nested tighter_than self.now.turns self.now.depth class tokens.old) result tokens.new }
     {
         match class {
             Class::Or => self.chain(tokens, Class::And),

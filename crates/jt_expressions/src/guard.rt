@@ -6,10 +6,10 @@ ghost use Rattle.jt_syntax.specs.View.{connective_class};
 ghost use Rattle.jt_expressions.specs.Chains.{tighter_than};
 ghost use Rattle.jt_expressions.specs.Guards.{guarded_view};
 ghost use Rattle.jt_expressions.specs.Nested.{nested};
-ghost use Rattle.jt_cursor.specs.Reads.{Reads};
+ghost use Rattle.jt_cursor.specs.Parses.{Parses};
 
 use crate::rules::{Nested, Rules};
-use jt_cursor::{Cursor, Fault, is_jump, operator_in};
+use jt_cursor::{Cursor, Failure, is_jump, operator_in};
 use jt_syntax::{BinaryOperator, Class, Connective, Expr};
 use sqlite_items::{Boxed, Items};
 
@@ -23,9 +23,9 @@ pub struct Guarded {
 }
 
 impl<N: Nested> Rules<N> {
-    fn guarded_by(&self, tokens: &mut Cursor<'_>, class: Class) -> Result<Guarded, Fault>
+    fn guarded_by(&self, tokens: &mut Cursor<'_>, class: Class) -> Result<Guarded, Failure>
         requires { N.nests self.now.nested self.now.turns self.now.depth }
-        ensures { Reads guarded_view (spec.guarded_from class (nested tighter_than self.now.turns self.now.depth class) self.now.turns [] tokens.old) result tokens.new }
+        ensures { Parses guarded_view (spec.guarded_from class (nested tighter_than self.now.turns self.now.depth class) self.now.turns [] tokens.old) result tokens.new }
     {
         let mut operands = Items::new(self.alloc);
         for _turn in 0..self.turns {
@@ -41,13 +41,17 @@ impl<N: Nested> Rules<N> {
             let operand = self.tighter(tokens, class)?;
             operands.push((operator, operand))?;
         }
-        Err(Fault::Spent)
+        Err(Failure::Spent)
     }
 
     /// Operands behind the operator, up to what is none or a jump.
-    pub fn guarded(&self, tokens: &mut Cursor<'_>, connective: Connective) -> Result<Guarded, Fault>
+    pub fn guarded(
+        &self,
+        tokens: &mut Cursor<'_>,
+        connective: Connective,
+    ) -> Result<Guarded, Failure>
         requires { N.nests self.now.nested self.now.turns self.now.depth }
-        ensures { Reads guarded_view (spec.guarded_terms (connective_class connective) (nested tighter_than self.now.turns self.now.depth (connective_class connective)) self.now.turns tokens.old) result tokens.new }
+        ensures { Parses guarded_view (spec.guarded_terms (connective_class connective) (nested tighter_than self.now.turns self.now.depth (connective_class connective)) self.now.turns tokens.old) result tokens.new }
     {
         self.guarded_by(tokens, connective.class())
     }

@@ -4,10 +4,10 @@ ghost use Rattle.jt_grammar.specs.Grammar as grammar;
 ghost use Rattle.jt_grammar.specs.Reader as spec;
 ghost use Rattle.jt_syntax.specs.View.{view};
 ghost use Rattle.jt_expressions.specs.Nested.{nested};
-ghost use Rattle.jt_cursor.specs.Reads.{Reads};
+ghost use Rattle.jt_cursor.specs.Parses.{Parses};
 
 use crate::rules::{Nested, Rules};
-use jt_cursor::{Cursor, Fault, Kind, power_sign, unary_sign};
+use jt_cursor::{Cursor, Failure, Kind, power_sign, unary_sign};
 use jt_grammar::Level;
 use jt_syntax::{ArithmeticOperator, BinaryOperator, Expr, Sign, UnaryOperator};
 use sqlite_items::Boxed;
@@ -17,9 +17,9 @@ impl<N: Nested> Rules<N> {
         &self,
         tokens: &mut Cursor<'_>,
         operator: UnaryOperator,
-    ) -> Result<Boxed<Expr>, Fault>
+    ) -> Result<Boxed<Expr>, Failure>
         requires { N.nests self.now.nested self.now.turns self.now.depth }
-        ensures { Reads view (nested spec.negated self.now.turns self.now.depth (grammar.unary_sign operator) operator tokens.old) result tokens.new }
+        ensures { Parses view (nested spec.negated self.now.turns self.now.depth (grammar.unary_sign operator) operator tokens.old) result tokens.new }
     {
         tokens.opening(self.depth, unary_sign(operator))?;
         let operand = self.inner(tokens, Level::Operand)?;
@@ -27,9 +27,9 @@ impl<N: Nested> Rules<N> {
     }
 
     /// Behind what may be the base of a power.
-    fn raised(&self, tokens: &mut Cursor<'_>, base: Boxed<Expr>) -> Result<Boxed<Expr>, Fault>
+    fn raised(&self, tokens: &mut Cursor<'_>, base: Boxed<Expr>) -> Result<Boxed<Expr>, Failure>
         requires { N.nests self.now.nested self.now.turns self.now.depth }
-        ensures { Reads view (nested spec.raised self.now.turns self.now.depth (view base) tokens.old) result tokens.new }
+        ensures { Parses view (nested spec.raised self.now.turns self.now.depth (view base) tokens.old) result tokens.new }
     {
         if !tokens.sees(power_sign()) {
             return Ok(base);
@@ -41,9 +41,9 @@ impl<N: Nested> Rules<N> {
     }
 
     #[tactic(auto, unfolding(jt_grammar::specs::Reader::power))]
-    fn power(&self, tokens: &mut Cursor<'_>) -> Result<Boxed<Expr>, Fault>
+    fn power(&self, tokens: &mut Cursor<'_>) -> Result<Boxed<Expr>, Failure>
         requires { N.nests self.now.nested self.now.turns self.now.depth }
-        ensures { Reads view (nested spec.power self.now.turns self.now.depth tokens.old) result tokens.new }
+        ensures { Parses view (nested spec.power self.now.turns self.now.depth tokens.old) result tokens.new }
     {
         let base = self.primary(tokens)?;
         self.raised(tokens, base)
@@ -51,9 +51,9 @@ impl<N: Nested> Rules<N> {
 
     /// The operand of a binary operator.
     #[tactic(auto, unfolding(jt_grammar::specs::Reader::operand))]
-    pub fn operand(&self, tokens: &mut Cursor<'_>) -> Result<Boxed<Expr>, Fault>
+    pub fn operand(&self, tokens: &mut Cursor<'_>) -> Result<Boxed<Expr>, Failure>
         requires { N.nests self.now.nested self.now.turns self.now.depth }
-        ensures { Reads view (nested spec.operand self.now.turns self.now.depth tokens.old) result tokens.new }
+        ensures { Parses view (nested spec.operand self.now.turns self.now.depth tokens.old) result tokens.new }
     {
         use ArithmeticOperator::{Add, Subtract};
         match tokens.kind() {

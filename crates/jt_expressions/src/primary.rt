@@ -9,10 +9,10 @@ ghost use Rattle.jt_grammar.specs.declared.Level.TheVariants as levels;
 ghost use Rattle.jt_syntax.specs.View.{view};
 ghost use Rattle.jt_expressions.specs.Channels.{buffered};
 ghost use Rattle.jt_expressions.specs.Nested.{nested};
-ghost use Rattle.jt_cursor.specs.Reads.{Reads, one};
+ghost use Rattle.jt_cursor.specs.Parses.{Parses, one};
 
 use crate::rules::{Nested, Rules};
-use jt_cursor::{Cursor, Fault, Kind, comma_list};
+use jt_cursor::{Cursor, Failure, Kind, comma_list};
 use jt_grammar::Level;
 use jt_syntax::{Expr, Item, Sign, Token};
 use sqlite_items::{Boxed, Items};
@@ -26,23 +26,23 @@ fn channel_of(alloc: Global, capacity: Boxed<Expr>) -> Result<Boxed<Expr>, Alloc
 }
 
 impl<N: Nested> Rules<N> {
-    fn number(&self, tokens: &mut Cursor<'_>, number: u64) -> Result<Boxed<Expr>, Fault>
-        ensures { Reads view (one (tree.number number) tokens.old) result tokens.new }
+    fn number(&self, tokens: &mut Cursor<'_>, number: u64) -> Result<Boxed<Expr>, Failure>
+        ensures { Parses view (one (tree.number number) tokens.old) result tokens.new }
     {
         tokens.skip()?;
         Ok(Boxed::new(self.alloc, Expr::Number(number))?)
     }
 
-    fn truth(&self, tokens: &mut Cursor<'_>, value: bool) -> Result<Boxed<Expr>, Fault>
-        ensures { Reads view (one (tree.truth value) tokens.old) result tokens.new }
+    fn truth(&self, tokens: &mut Cursor<'_>, value: bool) -> Result<Boxed<Expr>, Failure>
+        ensures { Parses view (one (tree.truth value) tokens.old) result tokens.new }
     {
         tokens.skip()?;
         Ok(Boxed::new(self.alloc, Expr::Truth(value))?)
     }
 
-    fn grouped(&self, tokens: &mut Cursor<'_>) -> Result<Boxed<Expr>, Fault>
+    fn grouped(&self, tokens: &mut Cursor<'_>) -> Result<Boxed<Expr>, Failure>
         requires { N.nests self.now.nested self.now.turns self.now.depth }
-        ensures { Reads view (nested spec.grouped self.now.turns self.now.depth tokens.old) result tokens.new }
+        ensures { Parses view (nested spec.grouped self.now.turns self.now.depth tokens.old) result tokens.new }
     {
         tokens.opening(self.depth, Sign::Open)?;
         let inner = self.inner(tokens, Level::Whole)?;
@@ -50,8 +50,8 @@ impl<N: Nested> Rules<N> {
         Ok(Boxed::new(self.alloc, Expr::Group(inner))?)
     }
 
-    fn interpolated(&self, tokens: &mut Cursor<'_>) -> Result<Boxed<Expr>, Fault>
-        ensures { Reads view (nested spec.interpolated self.now.turns self.now.depth tokens.old) result tokens.new }
+    fn interpolated(&self, tokens: &mut Cursor<'_>) -> Result<Boxed<Expr>, Failure>
+        ensures { Parses view (nested spec.interpolated self.now.turns self.now.depth tokens.old) result tokens.new }
     {
         let at = tokens.skip()?.at;
         let name = tokens.word(self.alloc)?;
@@ -59,26 +59,26 @@ impl<N: Nested> Rules<N> {
     }
 
     /// A string that `println` prints.
-    fn text_item(&self, tokens: &mut Cursor<'_>, text: &[u8]) -> Result<Item, Fault>
-        ensures { Reads item_view (one (tree.text text.now) tokens.old) result tokens.new }
+    fn text_item(&self, tokens: &mut Cursor<'_>, text: &[u8]) -> Result<Item, Failure>
+        ensures { Parses item_view (one (tree.text text.now) tokens.old) result tokens.new }
     {
         tokens.skip()?;
         Ok(Item::Text(Items::from_slice(self.alloc, text)?))
     }
 
     /// A value that `println` prints.
-    fn value_item(&self, tokens: &mut Cursor<'_>) -> Result<Item, Fault>
+    fn value_item(&self, tokens: &mut Cursor<'_>) -> Result<Item, Failure>
         requires { N.nests self.now.nested self.now.turns self.now.depth }
-        ensures { Reads item_view (spec.read self.now.turns self.now.depth levels.Whole tokens.old) result tokens.new }
+        ensures { Parses item_view (spec.read self.now.turns self.now.depth levels.Whole tokens.old) result tokens.new }
     {
         Ok(Item::Value(self.inner(tokens, Level::Whole)?))
     }
 
     /// What `println` prints.
     #[tactic(auto, unfolding(jt_grammar::specs::Reader::item))]
-    fn item(&self, tokens: &mut Cursor<'_>) -> Result<Item, Fault>
+    fn item(&self, tokens: &mut Cursor<'_>) -> Result<Item, Failure>
         requires { N.nests self.now.nested self.now.turns self.now.depth }
-        ensures { Reads item_view (nested spec.item self.now.turns self.now.depth tokens.old) result tokens.new }
+        ensures { Parses item_view (nested spec.item self.now.turns self.now.depth tokens.old) result tokens.new }
     {
         match tokens.kind() {
             Kind::Text(text) => self.text_item(tokens, text),
@@ -86,9 +86,9 @@ impl<N: Nested> Rules<N> {
         }
     }
 
-    fn items(&self, tokens: &mut Cursor<'_>) -> Result<Items<Item>, Fault>
+    fn items(&self, tokens: &mut Cursor<'_>) -> Result<Items<Item>, Failure>
         requires { N.nests self.now.nested self.now.turns self.now.depth }
-        ensures { Reads item_views (spec.comma_list self.now.turns (nested spec.item self.now.turns self.now.depth) tree.no_trees tree.tree tokens.old) result tokens.new }
+        ensures { Parses item_views (spec.comma_list self.now.turns (nested spec.item self.now.turns self.now.depth) tree.no_trees tree.tree tokens.old) result tokens.new }
     {
         comma_list(
             self.alloc,
@@ -98,9 +98,9 @@ impl<N: Nested> Rules<N> {
         )
     }
 
-    fn printed(&self, tokens: &mut Cursor<'_>) -> Result<Boxed<Expr>, Fault>
+    fn printed(&self, tokens: &mut Cursor<'_>) -> Result<Boxed<Expr>, Failure>
         requires { N.nests self.now.nested self.now.turns self.now.depth }
-        ensures { Reads view (nested spec.printed self.now.turns self.now.depth tokens.old) result tokens.new }
+        ensures { Parses view (nested spec.printed self.now.turns self.now.depth tokens.old) result tokens.new }
     {
         tokens.skip()?;
         tokens.opening(self.depth, Sign::Open)?;
@@ -109,8 +109,8 @@ impl<N: Nested> Rules<N> {
         Ok(Boxed::new(self.alloc, Expr::Println(items))?)
     }
 
-    fn failing(&self, tokens: &mut Cursor<'_>) -> Result<Boxed<Expr>, Fault>
-        ensures { Reads view (nested spec.failing self.now.turns self.now.depth tokens.old) result tokens.new }
+    fn failing(&self, tokens: &mut Cursor<'_>) -> Result<Boxed<Expr>, Failure>
+        ensures { Parses view (nested spec.failing self.now.turns self.now.depth tokens.old) result tokens.new }
     {
         tokens.skip()?;
         tokens.opening(self.depth, Sign::Open)?;
@@ -120,8 +120,8 @@ impl<N: Nested> Rules<N> {
     }
 
     /// `{Int64}`
-    fn of_int64<'t>(&self, tokens: &mut Cursor<'t>) -> Result<&'t Token, Fault>
-        ensures { Reads now (nested spec.of_int64 self.now.turns self.now.depth tokens.old) result tokens.new }
+    fn of_int64<'t>(&self, tokens: &mut Cursor<'t>) -> Result<&'t Token, Failure>
+        ensures { Parses now (nested spec.of_int64 self.now.turns self.now.depth tokens.old) result tokens.new }
     {
         tokens.opening(self.depth, Sign::OpenCurly)?;
         tokens.expect(Sign::Int64)?;
@@ -129,26 +129,26 @@ impl<N: Nested> Rules<N> {
     }
 
     /// Behind the `(` of a channel without a capacity.
-    fn unbuffered(&self, tokens: &mut Cursor<'_>) -> Result<Boxed<Expr>, Fault>
-        ensures { Reads view (one tree.unbuffered tokens.old) result tokens.new }
+    fn unbuffered(&self, tokens: &mut Cursor<'_>) -> Result<Boxed<Expr>, Failure>
+        ensures { Parses view (one tree.unbuffered tokens.old) result tokens.new }
     {
         tokens.skip()?;
         Ok(Boxed::new(self.alloc, Expr::Channel(None))?)
     }
 
     /// Behind the `(` of a channel with a capacity.
-    fn buffered(&self, tokens: &mut Cursor<'_>) -> Result<Boxed<Expr>, Fault>
+    fn buffered(&self, tokens: &mut Cursor<'_>) -> Result<Boxed<Expr>, Failure>
         requires { N.nests self.now.nested self.now.turns self.now.depth }
-        ensures { Reads view (nested buffered self.now.turns self.now.depth tokens.old) result tokens.new }
+        ensures { Parses view (nested buffered self.now.turns self.now.depth tokens.old) result tokens.new }
     {
         let capacity = self.inner(tokens, Level::Whole)?;
         tokens.expect(Sign::Close)?;
         Ok(channel_of(self.alloc, capacity)?)
     }
 
-    fn channelled(&self, tokens: &mut Cursor<'_>) -> Result<Boxed<Expr>, Fault>
+    fn channelled(&self, tokens: &mut Cursor<'_>) -> Result<Boxed<Expr>, Failure>
         requires { N.nests self.now.nested self.now.turns self.now.depth }
-        ensures { Reads view (nested spec.channelled self.now.turns self.now.depth tokens.old) result tokens.new }
+        ensures { Parses view (nested spec.channelled self.now.turns self.now.depth tokens.old) result tokens.new }
     {
         tokens.skip()?;
         self.of_int64(tokens)?;
@@ -159,9 +159,9 @@ impl<N: Nested> Rules<N> {
         self.buffered(tokens)
     }
 
-    fn atomic_made(&self, tokens: &mut Cursor<'_>) -> Result<Boxed<Expr>, Fault>
+    fn atomic_made(&self, tokens: &mut Cursor<'_>) -> Result<Boxed<Expr>, Failure>
         requires { N.nests self.now.nested self.now.turns self.now.depth }
-        ensures { Reads view (nested spec.atomic_made self.now.turns self.now.depth tokens.old) result tokens.new }
+        ensures { Parses view (nested spec.atomic_made self.now.turns self.now.depth tokens.old) result tokens.new }
     {
         tokens.skip()?;
         self.of_int64(tokens)?;
@@ -172,9 +172,9 @@ impl<N: Nested> Rules<N> {
     }
 
     /// `typemin(Int64)` or `typemax(Int64)`
-    fn limit(&self, tokens: &mut Cursor<'_>) -> Result<(), Fault>
-        ensures least { Reads (λ _. tree.least) (nested spec.limit self.now.turns self.now.depth tree.least tokens.old) result tokens.new }
-        ensures greatest { Reads (λ _. tree.greatest) (nested spec.limit self.now.turns self.now.depth tree.greatest tokens.old) result tokens.new }
+    fn limit(&self, tokens: &mut Cursor<'_>) -> Result<(), Failure>
+        ensures least { Parses (λ _. tree.least) (nested spec.limit self.now.turns self.now.depth tree.least tokens.old) result tokens.new }
+        ensures greatest { Parses (λ _. tree.greatest) (nested spec.limit self.now.turns self.now.depth tree.greatest tokens.old) result tokens.new }
     {
         tokens.skip()?;
         tokens.opening(self.depth, Sign::Open)?;
@@ -183,23 +183,23 @@ impl<N: Nested> Rules<N> {
         Ok(())
     }
 
-    fn least(&self, tokens: &mut Cursor<'_>) -> Result<Boxed<Expr>, Fault>
-        ensures { Reads view (nested spec.limit self.now.turns self.now.depth tree.least tokens.old) result tokens.new }
+    fn least(&self, tokens: &mut Cursor<'_>) -> Result<Boxed<Expr>, Failure>
+        ensures { Parses view (nested spec.limit self.now.turns self.now.depth tree.least tokens.old) result tokens.new }
     {
         self.limit(tokens)?;
         Ok(Boxed::new(self.alloc, Expr::Least)?)
     }
 
-    fn greatest(&self, tokens: &mut Cursor<'_>) -> Result<Boxed<Expr>, Fault>
-        ensures { Reads view (nested spec.limit self.now.turns self.now.depth tree.greatest tokens.old) result tokens.new }
+    fn greatest(&self, tokens: &mut Cursor<'_>) -> Result<Boxed<Expr>, Failure>
+        ensures { Parses view (nested spec.limit self.now.turns self.now.depth tree.greatest tokens.old) result tokens.new }
     {
         self.limit(tokens)?;
         Ok(Boxed::new(self.alloc, Expr::Greatest)?)
     }
 
-    fn ranged(&self, tokens: &mut Cursor<'_>) -> Result<Boxed<Expr>, Fault>
+    fn ranged(&self, tokens: &mut Cursor<'_>) -> Result<Boxed<Expr>, Failure>
         requires { N.nests self.now.nested self.now.turns self.now.depth }
-        ensures { Reads view (nested spec.ranged self.now.turns self.now.depth tokens.old) result tokens.new }
+        ensures { Parses view (nested spec.ranged self.now.turns self.now.depth tokens.old) result tokens.new }
     {
         let first = self.inner(tokens, Level::Sum)?;
         tokens.expect(Sign::Colon)?;
@@ -208,9 +208,9 @@ impl<N: Nested> Rules<N> {
         Ok(Boxed::new(self.alloc, Expr::RandomIn(first, last))?)
     }
 
-    fn drawn(&self, tokens: &mut Cursor<'_>) -> Result<Boxed<Expr>, Fault>
+    fn drawn(&self, tokens: &mut Cursor<'_>) -> Result<Boxed<Expr>, Failure>
         requires { N.nests self.now.nested self.now.turns self.now.depth }
-        ensures { Reads view (nested spec.drawn self.now.turns self.now.depth tokens.old) result tokens.new }
+        ensures { Parses view (nested spec.drawn self.now.turns self.now.depth tokens.old) result tokens.new }
     {
         tokens.skip()?;
         tokens.opening(self.depth, Sign::Open)?;
@@ -224,9 +224,9 @@ impl<N: Nested> Rules<N> {
 
     /// An expression of the tightest forms.
     #[tactic(auto, unfolding(jt_grammar::specs::Reader::primary))]
-    pub(crate) fn primary(&self, tokens: &mut Cursor<'_>) -> Result<Boxed<Expr>, Fault>
+    pub(crate) fn primary(&self, tokens: &mut Cursor<'_>) -> Result<Boxed<Expr>, Failure>
         requires { N.nests self.now.nested self.now.turns self.now.depth }
-        ensures { Reads view (nested spec.primary self.now.turns self.now.depth tokens.old) result tokens.new }
+        ensures { Parses view (nested spec.primary self.now.turns self.now.depth tokens.old) result tokens.new }
     {
         match tokens.kind() {
             Kind::Number(number) => self.number(tokens, number),

@@ -4,9 +4,9 @@
 ghost use Rattle.std.specs.Prelude.{ℕ};
 ghost use Rattle.jt_grammar.specs.Reader as spec;
 ghost use Rattle.jt_syntax.specs.View.{view, stmt_view};
-ghost use Rattle.jt_cursor.specs.Reads.{Reads};
+ghost use Rattle.jt_cursor.specs.Parses.{Parses};
 
-use jt_cursor::{Cursor, Fault};
+use jt_cursor::{Cursor, Failure};
 use jt_grammar::Level;
 use jt_syntax::{Expr, Stmt};
 use sqlite_items::Boxed;
@@ -25,9 +25,9 @@ pub trait Nested {
         turns: usize,
         depth: usize,
         level: Level,
-    ) -> Result<Boxed<Expr>, Fault>
+    ) -> Result<Boxed<Expr>, Failure>
         requires { nests self.now turns depth }
-        ensures { Reads view (spec.read turns depth level tokens.old) result tokens.new };
+        ensures { Parses view (spec.read turns depth level tokens.old) result tokens.new };
 
     /// A statement.
     fn statement(
@@ -36,9 +36,9 @@ pub trait Nested {
         tokens: &mut Cursor<'_>,
         turns: usize,
         depth: usize,
-    ) -> Result<Stmt, Fault>
+    ) -> Result<Stmt, Failure>
         requires { nests self.now turns depth }
-        ensures { Reads stmt_view (spec.read_step turns depth tokens.old) result tokens.new };
+        ensures { Parses stmt_view (spec.read_step turns depth tokens.old) result tokens.new };
 }
 
 /// The rules inside as many openers as are open.
@@ -56,18 +56,18 @@ pub struct Rules<N> {
 
 impl<N: Nested> Rules<N> {
     /// An expression inside one more opener.
-    pub fn inner(&self, tokens: &mut Cursor<'_>, level: Level) -> Result<Boxed<Expr>, Fault>
+    pub fn inner(&self, tokens: &mut Cursor<'_>, level: Level) -> Result<Boxed<Expr>, Failure>
         requires { N.nests self.now.nested self.now.turns self.now.depth }
-        ensures { Reads view (spec.read self.now.turns self.now.depth level tokens.old) result tokens.new }
+        ensures { Parses view (spec.read self.now.turns self.now.depth level tokens.old) result tokens.new }
     {
         self.nested
             .expression(self.alloc, tokens, self.turns, self.depth, level)
     }
 
     /// A statement inside one more opener.
-    pub fn inner_step(&self, tokens: &mut Cursor<'_>) -> Result<Stmt, Fault>
+    pub fn inner_step(&self, tokens: &mut Cursor<'_>) -> Result<Stmt, Failure>
         requires { N.nests self.now.nested self.now.turns self.now.depth }
-        ensures { Reads stmt_view (spec.read_step self.now.turns self.now.depth tokens.old) result tokens.new }
+        ensures { Parses stmt_view (spec.read_step self.now.turns self.now.depth tokens.old) result tokens.new }
     {
         self.nested
             .statement(self.alloc, tokens, self.turns, self.depth)

@@ -7,7 +7,7 @@ use Rattle.jt_syntax.specs.declared.token.TokenKind.TheVariants as kind
 use Rattle.jt_grammar.specs.Grammar.{token, ScriptSpells, IsStop, NoStop, EndsWithStop}
 use Rattle.jt_grammar.specs.Nesting.{TopsWithin}
 use Rattle.jt_grammar.specs.Joined.{joined, IsScriptOf, BeginsScript, BeginsWithin, is_opener, demanded, BeginsFitting, IsUnexpected, IsTooDeep}
-use Rattle.jt_grammar.specs.Reader.{Fault, unexpected, deep, spent, Outcome, kind_of, script}
+use Rattle.jt_grammar.specs.Reader.{Mismatch, unexpected, deep, spent, Outcome, kind_of, script}
 use Rattle.jt_grammar.proofs.Steps.{Begins, Always, Fits, Explains}
 use Rattle.jt_grammar.proofs.Sound.{script_explains}
 use Rattle.jt_grammar.proofs.Complete.{script_complete}
@@ -36,7 +36,7 @@ ok-same : (o : Read) (a b : List TopTree) (r s : List Token) → o ≡ Ok (a, r)
 unfolding got
 ok-same o a b r s e f = ap (got a) (sym e ∙ f)
 
-err-ok : {X : Type 0} (o : Read) (e : Fault) (p : List TopTree × List Token) → o ≡ Err e → o ≡ Ok p → X
+err-ok : {X : Type 0} (o : Read) (e : Mismatch) (p : List TopTree × List Token) → o ≡ Err e → o ≡ Ok p → X
 err-ok o e p a b = absurd (true≢false (ap is_ok (sym b ∙ a)))
 
 stop_end : (u v ts : List Token) (at : ℕ) → ts ≡ u ++ v → v ≡ token (kind.Sign sign.Stop) at ∷ [] → ts ≡ u ++ token (kind.Sign sign.Stop) at ∷ []
@@ -58,7 +58,7 @@ nothing_more ts more tops h a =
 
 -- ---- a refusal comes again, whatever follows, and however many turns and openers there are
 
-again_unexpected : (o : Read) (x y : List Token) (at : ℕ) → at ≡ suc (length x) → ((k : ℕ) × (at ≡ k + suc (length x)) × (o ≡ Err (unexpected (k + suc (length y))))) ⊎ (at ≤ length x) → (e : Fault) × (o ≡ Err e)
+again_unexpected : (o : Read) (x y : List Token) (at : ℕ) → at ≡ suc (length x) → ((k : ℕ) × (at ≡ k + suc (length x)) × (o ≡ Err (unexpected (k + suc (length y))))) ⊎ (at ≤ length x) → (e : Mismatch) × (o ≡ Err e)
 again_unexpected o x y at is (inl m) = (unexpected (m.0 + suc (length y)), m.2)
 again_unexpected o x y at is (inr m) = absurd (omega (arith, is, m))
 

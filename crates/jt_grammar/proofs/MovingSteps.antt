@@ -10,7 +10,7 @@ use Rattle.jt_syntax.specs.declared.token.TokenKind.{TokenKind}
 use Rattle.jt_syntax.specs.declared.token.TokenKind.TheVariants as kind
 use Rattle.jt_grammar.specs.Joined.{demanded}
 use Rattle.jt_grammar.proofs.Signs.{is-true}
-use Rattle.jt_grammar.specs.Reader.{Fault, unexpected, deep, spent, Outcome, Parser, and_then, ◌>>=◌, ◌>>◌, pure, refuse, kind_of, place_of, is, skip, by_kind, on, expect, enter, opening, operates, operator_of, joined_chain, terms, chained, is_jump, guarded_terms, commas, comma_list, is_separator, gap, ends, list_of, body_of, tail_of}
+use Rattle.jt_grammar.specs.Reader.{Mismatch, unexpected, deep, spent, Outcome, Parser, and_then, ◌>>=◌, ◌>>◌, pure, refuse, kind_of, place_of, is, skip, by_kind, on, expect, enter, opening, operates, operator_of, joined_chain, terms, chained, is_jump, guarded_terms, commas, comma_list, is_separator, gap, ends, list_of, body_of, tail_of}
 
 -- ---- an outcome leaves no more tokens than there were
 
@@ -28,7 +28,7 @@ shorter_than ts rest (Err spent) h x = tt
 
 -- a refusal
 abbrev pub IsErr : {A : Type 0} → Outcome A → Type 0
-IsErr o = (e : Fault) × (o ≡ Err e)
+IsErr o = (e : Mismatch) × (o ≡ Err e)
 
 -- ---- two outcomes, on lists that agree up to the token t: before x in the first, before y in the second
 

@@ -34,13 +34,13 @@ use Rattle.jt_grammar.specs.declared.Target.TheVariants as targets
 use Rattle.jt_grammar.specs.Grammar.{unary_sign, power_sign, level}
 
 -- Why a list is refused, by how many tokens are left: the next token fits no rule, it is an opener too many, or the turns are used up.
-pub data Fault : Type 0 where
-  unexpected : ℕ → Fault
-  deep : ℕ → Fault
-  spent : Fault
+pub data Mismatch : Type 0 where
+  unexpected : ℕ → Mismatch
+  deep : ℕ → Mismatch
+  spent : Mismatch
 
 abbrev pub Outcome : Type 0 → Type 0
-Outcome A = Result (A × List Token) Fault
+Outcome A = Result (A × List Token) Mismatch
 
 abbrev pub Parser : Type 0 → Type 0
 Parser A = List Token → Outcome A

@@ -4,9 +4,9 @@ use Rattle.std.specs.Prelude.{slice_index, ◌==◌}
 use Rattle.std.specs.Option.{is_some}
 use Rattle.std.proofs.lemmas.Bool.{false≢true, cases_Bool, and_parts, and_right, eqb-true, ne_eqb}
 use Rattle.jt_lexer.specs.declared.piece.Shape.TheVariants as shape
-use Rattle.jt_lexer.specs.declared.piece.Fault.TheVariants as fault
-use Rattle.jt_lexer.specs.Pieces.{Text, comment_end, closed, comment}
-use Rattle.jt_lexer.specs.Rules.{Mark, opening, closing, other, Reads, depth, size, IsNestedComment, IsOpenComment}
+use Rattle.jt_lexer.specs.declared.piece.Defect.TheVariants as defect
+use Rattle.jt_lexer.specs.Pieces.{Text, comment_end, comment_piece, comment}
+use Rattle.jt_lexer.specs.Rules.{CommentMark, opening, closing, other, ReadsMarks, depth, size, IsNestedComment, IsOpenComment}
 
 abbrev some_or : ℕ → Option ℕ → ℕ
 some_or d None = d
@@ -21,7 +21,7 @@ closing_step outer at y =
     let inner : (suc outer == 0) ≡ false = ne_eqb (suc outer) 0 (λ e. absurd (omega (arith, e))) in
     rw inner (ap (λ n. comment_end n false (at + 1 + 1) y) one)
 
-marks_read : (ms : List Mark) (outer d at : ℕ) (z rest : Text) → Reads ms z rest → depth outer ms ≡ Some d → comment_end outer false at z ≡ comment_end d false (at + size ms) rest
+marks_read : (ms : List CommentMark) (outer d at : ℕ) (z rest : Text) → ReadsMarks ms z rest → depth outer ms ≡ Some d → comment_end outer false at z ≡ comment_end d false (at + size ms) rest
 marks_read [] outer d at z rest h e =
     let place : at ≡ at + 0 = omega arith in
     ap (comment_end outer false at) h ∙ (ap (λ n. comment_end n false at rest) (ap (some_or outer) e) ∙ ap (λ k. comment_end d false k rest) place)
@@ -46,16 +46,16 @@ pub nested_is : (z : Text) (n : ℕ) → IsNestedComment z n → comment z ≡ O
 unfolding comment
 nested_is z n h =
     let long : 2 + size h.2 + 2 ≡ size h.2 + 4 = omega arith in
-    ap comment h.3 ∙ (ap closed (marks_read h.2 0 0 2 h.0 (61 ∷ 35 ∷ h.1) h.4 h.5) ∙ ap (λ k. Ok (shape.Blank, k)) (long ∙ sym h.6))
+    ap comment h.3 ∙ (ap comment_piece (marks_read h.2 0 0 2 h.0 (61 ∷ 35 ∷ h.1) h.4 h.5) ∙ ap (λ k. Ok (shape.Blank, k)) (long ∙ sym h.6))
 
-pub open_comment_is : (z : Text) → IsOpenComment z → comment z ≡ Err fault.OpenString
+pub open_comment_is : (z : Text) → IsOpenComment z → comment z ≡ Err defect.OpenString
 unfolding comment
-open_comment_is z h = ap comment h.3 ∙ ap closed (marks_read h.1 0 h.2 2 h.0 [] h.4 h.5)
+open_comment_is z h = ap comment h.3 ∙ ap comment_piece (marks_read h.1 0 h.2 2 h.0 [] h.4 h.5)
 
 -- ---- each text behind `#=` closes it or doesn't
 
 abbrev Ends : ℕ → Text → Type 0
-Ends outer z = ((ms : List Mark) × (rest : Text) × Reads ms z (61 ∷ 35 ∷ rest) × (depth outer ms ≡ Some 0)) ⊎ ((ms : List Mark) × (d : ℕ) × Reads ms z [] × (depth outer ms ≡ Some d))
+Ends outer z = ((ms : List CommentMark) × (rest : Text) × ReadsMarks ms z (61 ∷ 35 ∷ rest) × (depth outer ms ≡ Some 0)) ⊎ ((ms : List CommentMark) × (d : ℕ) × ReadsMarks ms z [] × (depth outer ms ≡ Some d))
 
 opened : (outer b c : ℕ) (y : Text) → b ≡ 35 → c ≡ 61 → Ends (suc outer) y → Ends outer (b ∷ c ∷ y)
 opened outer b c y h k (inl e) = inl (opening ∷ e.0, e.1, (y, ap (λ x. x ∷ c ∷ y) h ∙ ap (λ x. 35 ∷ x ∷ y) k, e.2), e.3)

@@ -10,12 +10,12 @@ use Rattle.jt_syntax.specs.declared.token.Token.{Token}
 use Rattle.jt_syntax.specs.declared.token.TokenKind.TheVariants as kind
 use Rattle.jt_lexer.specs.declared.error.LexError.TheVariants as error
 use Rattle.jt_lexer.specs.declared.piece.Shape.TheVariants as shape
-use Rattle.jt_lexer.specs.declared.piece.Fault.TheVariants as fault
-use Rattle.jt_lexer.specs.Pieces.{piece, comment, whole_len, is_of_threads, is_of_base, is_base_threads_word, is_threads_word, is_base_word, prefix_len, is_base_threads, reserved, word, sign_at}
+use Rattle.jt_lexer.specs.declared.piece.Defect.TheVariants as defect
+use Rattle.jt_lexer.specs.Pieces.{piece, comment, whole_len, is_of_threads, is_of_base, is_base_threads_word, is_threads_word, is_base_word, prefix_len, is_base_threads, reserved, word_at, sign_at}
 use Rattle.jt_lexer.specs.Lexer.{token, escape, lex}
-use Rattle.jt_lexer.specs.Rules.{opening, closing, other, Reads, depth, IsNestedComment, in_number, value, IsNumber, plain, escaped, IsString, in_word, in_whole, IsPiece, IsRefusal}
+use Rattle.jt_lexer.specs.Rules.{opening, closing, other, ReadsMarks, depth, IsNestedComment, in_number, value, IsNumber, plain, escaped, IsString, in_word, in_whole, IsPiece, IsRefusal}
 use Rattle.jt_lexer.proofs.Classes.{piece_sound, refusal_sound}
-use Rattle.jt_lexer.specs.Spelled.{is_word, IsSpelledName, spelled, placed}
+use Rattle.jt_lexer.specs.Spelled.{is_word, IsSpelledName, spelled, placed_from}
 
 abbrev at : Sign → ℕ → Token
 at s place = token (kind.Sign s) place
@@ -52,7 +52,7 @@ unfolding lex piece comment
 unclosed = refl
 
 -- two marks share no byte
-shared_mark : piece (codes "#=#") ≡ Err fault.OpenString
+shared_mark : piece (codes "#=#") ≡ Err defect.OpenString
 unfolding piece comment
 shared_mark = refl
 
@@ -89,44 +89,44 @@ too_large = refl
 -- ---- words
 
 mark_before_equals : lex (codes "a!=b!") ≡ Ok (token (kind.Name (codes "a")) 0 ∷ at (sign.Binary (binary.Comparison comparison.NotEqual)) 1 ∷ token (kind.Name (codes "b!")) 3 ∷ at sign.Stop 5 ∷ [])
-unfolding lex piece word whole_len is_base_threads prefix_len is_base_threads_word is_threads_word is_base_word reserved sign_at
+unfolding lex piece word_at whole_len is_base_threads prefix_len is_base_threads_word is_threads_word is_base_word reserved sign_at
 mark_before_equals = refl
 
 keyword : piece (codes "while 1") ≡ Ok (shape.Sign sign.While, 5)
-unfolding piece word whole_len is_base_threads prefix_len is_base_threads_word is_threads_word is_base_word reserved
+unfolding piece word_at whole_len is_base_threads prefix_len is_base_threads_word is_threads_word is_base_word reserved
 keyword = refl
 
 no_keyword : piece (codes "whiles 1") ≡ Ok (shape.Name 0, 6)
-unfolding piece word whole_len is_base_threads prefix_len is_base_threads_word is_threads_word is_base_word reserved
+unfolding piece word_at whole_len is_base_threads prefix_len is_base_threads_word is_threads_word is_base_word reserved
 no_keyword = refl
 
 prefixed : lex (codes "Base.Event") ≡ Ok (token (kind.Name (codes "Event")) 0 ∷ at sign.Stop 10 ∷ [])
-unfolding lex piece word whole_len is_base_threads prefix_len is_base_threads_word is_threads_word is_base_word is_of_threads is_of_base reserved
+unfolding lex piece word_at whole_len is_base_threads prefix_len is_base_threads_word is_threads_word is_base_word is_of_threads is_of_base reserved
 prefixed = refl
 
 prefixed_macro : piece (codes "Base.Threads.@spawn 1") ≡ Ok (shape.Sign sign.Spawn, 19)
-unfolding piece word whole_len is_base_threads prefix_len is_base_threads_word is_threads_word is_base_word is_of_threads is_of_base reserved
+unfolding piece word_at whole_len is_base_threads prefix_len is_base_threads_word is_threads_word is_base_word is_of_threads is_of_base reserved
 prefixed_macro = refl
 
 base_threads : piece (codes "Base.Threads") ≡ Ok (shape.Sign sign.BaseThreads, 12)
-unfolding piece word whole_len is_base_threads
+unfolding piece word_at whole_len is_base_threads
 base_threads = refl
 
 -- the first dot, where the word behind the second isn't listed
 unlisted : lex (codes "Base.Threads.Foo") ≡ Err (error.BadCharacter 4)
-unfolding lex piece word whole_len is_base_threads prefix_len is_base_threads_word is_threads_word is_base_word is_of_threads is_of_base reserved sign_at
+unfolding lex piece word_at whole_len is_base_threads prefix_len is_base_threads_word is_threads_word is_base_word is_of_threads is_of_base reserved sign_at
 unlisted = refl
 
 unlisted_macro : lex (codes "Threads.@sync") ≡ Err (error.BadCharacter 7)
-unfolding lex piece word whole_len is_base_threads prefix_len is_base_threads_word is_threads_word is_base_word is_of_threads is_of_base reserved sign_at
+unfolding lex piece word_at whole_len is_base_threads prefix_len is_base_threads_word is_threads_word is_base_word is_of_threads is_of_base reserved sign_at
 unlisted_macro = refl
 
 read_whole : lex (codes "@spawnx") ≡ Err (error.BadCharacter 0)
-unfolding lex piece word whole_len is_base_threads prefix_len is_base_threads_word is_threads_word is_base_word reserved
+unfolding lex piece word_at whole_len is_base_threads prefix_len is_base_threads_word is_threads_word is_base_word reserved
 read_whole = refl
 
 macro_and_parenthesis : lex (codes "Threads.@spawn(") ≡ Err (error.BadCharacter 14)
-unfolding lex piece word whole_len is_base_threads prefix_len is_base_threads_word is_threads_word is_base_word is_of_threads is_of_base reserved
+unfolding lex piece word_at whole_len is_base_threads prefix_len is_base_threads_word is_threads_word is_base_word is_of_threads is_of_base reserved
 macro_and_parenthesis = refl
 
 -- ---- strings
@@ -164,12 +164,12 @@ of_two_bytes : piece (195 ∷ 183 ∷ 61 ∷ []) ≡ Ok (shape.Sign sign.DivideA
 unfolding piece sign_at
 of_two_bytes = refl
 
-other_character : piece (195 ∷ 164 ∷ []) ≡ Err (fault.BadCharacter 0)
+other_character : piece (195 ∷ 164 ∷ []) ≡ Err (defect.BadCharacter 0)
 unfolding piece sign_at
 other_character = refl
 
 dot : lex (codes "a.b") ≡ Err (error.BadCharacter 1)
-unfolding lex piece word whole_len is_base_threads prefix_len is_base_threads_word is_threads_word is_base_word reserved sign_at
+unfolding lex piece word_at whole_len is_base_threads prefix_len is_base_threads_word is_threads_word is_base_word reserved sign_at
 dot = refl
 
 -- ---- spelled tokens
@@ -183,7 +183,7 @@ spelled_assignment = refl
 spelled_string : spelled (kind.Text (97 ∷ 34 ∷ 10 ∷ 92 ∷ []) ∷ []) ≡ 34 ∷ 97 ∷ 92 ∷ 34 ∷ 92 ∷ 110 ∷ 92 ∷ 92 ∷ 34 ∷ 32 ∷ []
 spelled_string = refl
 
-spelled_places : placed 0 (kind.Sign sign.Spawn ∷ kind.Sign sign.Open ∷ []) ≡ at sign.Spawn 0 ∷ at sign.Open 7 ∷ at sign.Stop 9 ∷ []
+spelled_places : placed_from 0 (kind.Sign sign.Spawn ∷ kind.Sign sign.Open ∷ []) ≡ at sign.Spawn 0 ∷ at sign.Open 7 ∷ at sign.Stop 9 ∷ []
 spelled_places = refl
 
 plain_name : IsSpelledName (codes "notify")
@@ -234,7 +234,7 @@ closed_too_often : depth 0 (closing ∷ opening ∷ []) ≡ None
 closed_too_often = refl
 
 -- the byte behind the first mark is no part of another one
-marks_share_no_byte : Reads (opening ∷ other 35 ∷ []) (codes "#=#") []
+marks_share_no_byte : ReadsMarks (opening ∷ other 35 ∷ []) (codes "#=#") []
 marks_share_no_byte = (codes "#", refl, ([], refl, refl, refl, refl))
 
 one_comment : IsNestedComment (codes "#= #==# =#x") 10
@@ -252,4 +252,4 @@ one_keyword : IsPiece (codes "while 1") (Some (kind.Sign sign.While)) 5
 one_keyword = piece_sound (codes "while 1") (shape.Sign sign.While) 5 keyword
 
 one_stray : IsRefusal (195 ∷ 164 ∷ []) 7 (error.BadCharacter 7)
-one_stray = refusal_sound (195 ∷ 164 ∷ []) 7 (fault.BadCharacter 0) other_character
+one_stray = refusal_sound (195 ∷ 164 ∷ []) 7 (defect.BadCharacter 0) other_character

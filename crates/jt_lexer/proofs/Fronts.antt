@@ -4,7 +4,7 @@ use Rattle.std.specs.Prelude.{slice_index, ◌==◌, drop}
 use Rattle.std.specs.Char.{is_ascii_digit}
 use Rattle.std.proofs.lemmas.Bool.{false≢true, and_parts, or_cases, leb-true, eqb-true, eq-eqb, false_from_ne_true}
 use Rattle.jt_lexer.specs.declared.piece.Shape.TheVariants as shape
-use Rattle.jt_lexer.specs.Pieces.{Text, is_blank, comment, number_from, string_from, begins_word, word, sign_at, piece}
+use Rattle.jt_lexer.specs.Pieces.{Text, is_blank, comment, number_from, string_from, begins_word, word_at, sign_at, piece}
 
 -- a byte that passes a test is no byte that fails it
 pub differs : (p : ℕ → Bool) (b k : ℕ) → p b ≡ true → p k ≡ false → (b == k) ≡ false
@@ -48,7 +48,7 @@ at_string z h =
 no_digit : (b : ℕ) → begins_word b ≡ true → is_ascii_digit b ≡ false
 no_digit b h = false_from_ne_true (is_ascii_digit b) (λ d. grind (arith, and_parts, or_cases, leb-true, eqb-true, h, d))
 
-pub at_word : (z : Text) → begins_word (slice_index z 0) ≡ true → piece z ≡ word z
+pub at_word : (z : Text) → begins_word (slice_index z 0) ≡ true → piece z ≡ word_at z
 unfolding piece
 at_word z h =
     let blank = no_blank begins_word z h refl refl refl in

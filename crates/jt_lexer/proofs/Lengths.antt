@@ -5,8 +5,8 @@ use Rattle.std.specs.List.{starts_with}
 use Rattle.std.proofs.lemmas.Bool.{false≢true, cases_lt, or_cases, or_left, or_right}
 use Rattle.jt_syntax.specs.declared.token.TokenKind.{TokenKind}
 use Rattle.jt_syntax.specs.declared.token.TokenKind.TheVariants as kind
-use Rattle.jt_lexer.specs.Pieces.{Text, is_blank, goes_on, begins_word}
-use Rattle.jt_lexer.specs.Rules.{IsRun, in_line, in_whole, Mark, opening, closing, other, Reads, size, written, IsString, HasPrefix, BeginsAt, IsWord, IsSkipped, IsToken, IsPiece}
+use Rattle.jt_lexer.specs.Pieces.{Text, is_blank, continues_word, begins_word}
+use Rattle.jt_lexer.specs.Rules.{IsSpan, in_line, in_whole, CommentMark, opening, closing, other, ReadsMarks, size, part_bytes, IsString, HasPrefix, BeginsAt, IsWord, IsSkipped, IsToken, IsPiece}
 use Rattle.jt_lexer.proofs.Runs.{past_end, no_number}
 use Rattle.jt_lexer.proofs.WordRules.{starts_as}
 use Rattle.jt_lexer.proofs.SignRules.{begins_free, sign_free}
@@ -14,13 +14,13 @@ use Rattle.jt_lexer.proofs.SignRules.{begins_free, sign_free}
 abbrev pub Within : Text → ℕ → Type 0
 Within z n = (1 ≤ n) × (n ≤ length z)
 
-run_within : (test : ℕ → Bool) (n k : ℕ) → IsRun test n → test k ≡ false → n ≤ k
+run_within : (test : ℕ → Bool) (n k : ℕ) → IsSpan test n → test k ≡ false → n ≤ k
 run_within test n k r e = elim (cases_lt k n) [
   | inl l ↦ absurd (false≢true (sym e ∙ r.0 k l))
   | inr l ↦ l
 ]
 
-run_moves : (test : ℕ → Bool) (n : ℕ) → IsRun test n → test 0 ≡ true → 1 ≤ n
+run_moves : (test : ℕ → Bool) (n : ℕ) → IsSpan test n → test 0 ≡ true → 1 ≤ n
 run_moves test zero r h = absurd (false≢true (sym r.1 ∙ h))
 run_moves test (suc n) r h = omega arith
 
@@ -41,7 +41,7 @@ line_moves : (z : Text) → slice_index z 0 ≡ 35 → in_line z 0 ≡ true
 line_moves [] h = absurd (omega (arith, h))
 line_moves (b ∷ z) h = ap (λ x. not (x == 10)) h
 
-marks_length : (ms : List Mark) (z rest : Text) → Reads ms z rest → length z ≡ size ms + length rest
+marks_length : (ms : List CommentMark) (z rest : Text) → ReadsMarks ms z rest → length z ≡ size ms + length rest
 marks_length [] z rest h = let e : length rest ≡ 0 + length rest = omega arith in ap length h ∙ e
 marks_length (opening ∷ ms) z rest h = omega (arith, ap length h.1, marks_length ms h.0 rest h.2)
 marks_length (closing ∷ ms) z rest h = omega (arith, ap length h.1, marks_length ms h.0 rest h.2)
@@ -57,7 +57,7 @@ skipped_within z n (inr (inr h)) =
 
 -- ---- words
 
-no_bytes : (s t : ℕ) → s ≡ 0 → (goes_on s || (s == 33 && not (t == 61))) ≡ false
+no_bytes : (s t : ℕ) → s ≡ 0 → (continues_word s || (s == 33 && not (t == 61))) ≡ false
 no_bytes s t e = rw e refl
 
 no_whole : (z : Text) → in_whole z (length z) ≡ false
@@ -72,10 +72,10 @@ prefix_within z start (inl h) = let l = front_within (codes "Base.Threads.") z h
 prefix_within z start (inr (inl h)) = let l = front_within (codes "Threads.") z h.1.0 in (omega (arith, h.0), omega (arith, h.0, l))
 prefix_within z start (inr (inr h)) = let l = front_within (codes "Base.") z h.1.0 in (omega (arith, h.0), omega (arith, h.0, l))
 
-start_within : (z : Text) (start m : ℕ) → begins_word (slice_index z 0) ≡ true → BeginsAt z start → IsRun (in_whole (drop start z)) m → (1 ≤ start + m) × (start ≤ length z)
+start_within : (z : Text) (start m : ℕ) → begins_word (slice_index z 0) ≡ true → BeginsAt z start → IsSpan (in_whole (drop start z)) m → (1 ≤ start + m) × (start ≤ length z)
 start_within z start m h (inl p) r = let w = prefix_within z start p in (omega (arith, w.0), w.1)
 start_within z start m h (inr p) r =
-    let moves = run_moves (in_whole (drop 0 z)) m (subst (λ k. IsRun (in_whole (drop k z)) m) p.0 r) (whole_moves z h) in
+    let moves = run_moves (in_whole (drop 0 z)) m (subst (λ k. IsSpan (in_whole (drop k z)) m) p.0 r) (whole_moves z h) in
     (omega (arith, moves), omega (arith, p.0))
 
 word_within : (z : Text) (start m n : ℕ) → IsWord z start m → n ≡ start + m → Within z n
@@ -88,8 +88,8 @@ word_within z start m n h e =
 
 string_within : (z : Text) (bs : List ℕ) (n : ℕ) → IsString z bs n → Within z n
 string_within z bs n h =
-    let all : length z ≡ suc (length (written h.0 ++ 34 ∷ h.1)) = ap length h.2 in
-    (omega (arith, h.4), omega (arith, h.4, all, length-append (written h.0) (34 ∷ h.1)))
+    let all : length z ≡ suc (length (part_bytes h.0 ++ 34 ∷ h.1)) = ap length h.2 in
+    (omega (arith, h.4), omega (arith, h.4, all, length-append (part_bytes h.0) (34 ∷ h.1)))
 
 free_len : (w : Text) → begins_free w ≡ true → 1 ≤ length w
 free_len [] h = absurd (false≢true h)

@@ -7,10 +7,10 @@ use Rattle.jt_syntax.specs.declared.token.Token.{Token}
 use Rattle.jt_syntax.specs.declared.token.TokenKind.{TokenKind}
 use Rattle.jt_syntax.specs.declared.token.TokenKind.TheVariants as kind
 use Rattle.jt_lexer.specs.Words.{of_threads, of_base}
-use Rattle.jt_lexer.specs.Pieces.{Text, begins_word, goes_on}
-use Rattle.jt_lexer.specs.Rules.{IsRun, in_word, in_whole, BeginsAt, IsName, IsToken}
+use Rattle.jt_lexer.specs.Pieces.{Text, begins_word, continues_word}
+use Rattle.jt_lexer.specs.Rules.{IsSpan, in_word, in_whole, BeginsAt, IsName, IsToken}
 use Rattle.jt_lexer.specs.Tokens.{IsTokensOf}
-use Rattle.jt_lexer.specs.Spelled.{is_first, all_in_word, is_word, IsSpelledName, HasSpelling, IsPrintable, Each, kinds}
+use Rattle.jt_lexer.specs.Spelled.{is_first, all_in_word, is_word, IsSpelledName, HasSpelling, IsPrintable, EachKind, kinds}
 use Rattle.jt_lexer.proofs.Runs.{less_run}
 use Rattle.jt_lexer.proofs.WordRules.{all_pass, listed_passes, listed_at}
 use Rattle.jt_lexer.proofs.Lengths.{whole_moves}
@@ -22,16 +22,16 @@ inner_goes false true e h = refl
 inner_goes false false e h = h
 
 -- a run of word places is a word's inside
-run_in_word : (z : Text) (n : ℕ) → IsRun (in_word z) n → all_in_word (take n z) ≡ true
+run_in_word : (z : Text) (n : ℕ) → IsSpan (in_word z) n → all_in_word (take n z) ≡ true
 run_in_word z zero r = refl
 run_in_word [] (suc n) r = refl
-run_in_word (b ∷ z) (suc n) r = and_from _ _ (inner_goes (goes_on b) (b == 33) _ (r.0 0 (omega arith))) (run_in_word z n (less_run (in_word (b ∷ z)) n r))
+run_in_word (b ∷ z) (suc n) r = and_from _ _ (inner_goes (continues_word b) (b == 33) _ (r.0 0 (omega arith))) (run_in_word z n (less_run (in_word (b ∷ z)) n r))
 
 first_of_word : (b : ℕ) → begins_word b ≡ true → (b == 64) ≡ false → is_first b ≡ true
 first_of_word b h k = grind (arith, or_cases, or_left, or_right, h, k)
 
 -- a word with no `@` before it
-whole_is_word : (z : Text) (n : ℕ) → begins_word (slice_index z 0) ≡ true → slice_index z 0 ≢ 64 → IsRun (in_whole z) n → is_word (take n z) ≡ true
+whole_is_word : (z : Text) (n : ℕ) → begins_word (slice_index z 0) ≡ true → slice_index z 0 ≢ 64 → IsSpan (in_whole z) n → is_word (take n z) ≡ true
 whole_is_word [] n h k r = absurd (false≢true h)
 whole_is_word (b ∷ z) zero h k r = absurd (false≢true (sym r.1 ∙ whole_moves (b ∷ z) h))
 whole_is_word (b ∷ z) (suc n) h k r = and_from _ _ (first_of_word b h (ne_eqb b 64 k)) (run_in_word z n (less_run (in_whole (b ∷ z)) n r))
@@ -66,5 +66,5 @@ of_token z (kind.Name w) n h s = name_is_printable z w n h
 of_token z (kind.Text bs) n h s = tt
 of_token z (kind.Sign t) n h s = s
 
-pub tokens_are_printable : (text : Text) (ts : List Token) → IsTokensOf text ts → Each (λ k. HasSpelling k → IsPrintable k) (kinds ts)
+pub tokens_are_printable : (text : Text) (ts : List Token) → IsTokensOf text ts → EachKind (λ k. HasSpelling k → IsPrintable k) (kinds ts)
 tokens_are_printable text ts h = each_token (λ k. HasSpelling k → IsPrintable k) (λ z. Unit {0}) (λ z k n t q. of_token z k n t) (λ z o n p q. tt) (λ none. none) text ts tt h

@@ -6,7 +6,7 @@ use Rattle.std.specs.List.{starts_with, All}
 use Rattle.std.proofs.lemmas.Bool.{false≢true, cases_Bool, and_parts, and_from, eqb-true, eq-eqb, not-true, ne_eqb, cases_lt}
 use Rattle.jt_syntax.specs.declared.token.Sign.{Sign}
 use Rattle.jt_lexer.specs.declared.piece.Shape.TheVariants as shape
-use Rattle.jt_lexer.specs.declared.piece.Fault.TheVariants as fault
+use Rattle.jt_lexer.specs.declared.piece.Defect.TheVariants as defect
 use Rattle.jt_lexer.specs.Words.{signs}
 use Rattle.jt_lexer.specs.Pieces.{Text, begins_word, first_sign, sign_at, piece}
 use Rattle.jt_lexer.specs.Rules.{IsSign, IsStray}
@@ -77,7 +77,7 @@ longest_first (x ∷ es) e z (suc k) o l i h a =
       | inr b ↦ first_step x es z b ∙ longest_first es e z k order.1 (omega (arith, l)) i h (λ j d m. a (suc j) d (omega (arith, m)))
     ]
 
-no_first : (es : List Entry) (z : Text) → All (λ e. starts_with nat_eq z e.0 ≡ false) es → first_sign es z ≡ Err (fault.BadCharacter 0)
+no_first : (es : List Entry) (z : Text) → All (λ e. starts_with nat_eq z e.0 ≡ false) es → first_sign es z ≡ Err (defect.BadCharacter 0)
 no_first [] z a = refl
 no_first (x ∷ es) z a = first_step x es z (a 0 x (omega arith)) ∙ no_first es z (λ j d m. a (suc j) d (omega (arith, m)))
 
@@ -155,6 +155,6 @@ sign_is z s n h =
     let free = free_front h.0 z (sign_free z s n h) h.2 in
     free_piece z free ∙ (longest_first signs (h.0, s) z h.1.0 refl h.1.1 h.1.2 h.2 (subst (Longest signs z) h.3 h.4) ∙ ap (λ k. Ok (shape.Sign s, k)) (sym h.3))
 
-pub stray_is : (z : Text) → IsStray z → piece z ≡ Err (fault.BadCharacter 0)
+pub stray_is : (z : Text) → IsStray z → piece z ≡ Err (defect.BadCharacter 0)
 unfolding sign_at
 stray_is z h = at_sign z h.0 (ne_eqb (slice_index z 0) 35 h.1) h.2 (ne_eqb (slice_index z 0) 34 h.3) h.4 ∙ no_first signs z h.5

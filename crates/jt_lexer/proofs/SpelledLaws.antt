@@ -9,9 +9,9 @@ use Rattle.jt_syntax.specs.declared.token.TokenKind.TheVariants as kind
 use Rattle.jt_lexer.specs.declared.piece.Shape.{Shape}
 use Rattle.jt_lexer.specs.declared.piece.Shape.TheVariants as shape
 use Rattle.jt_lexer.specs.Pieces.{Text, piece}
-use Rattle.jt_lexer.specs.Lexer.{Lexed, token, escape, unescaped, kind_of, lex}
+use Rattle.jt_lexer.specs.Lexer.{Lexed, token, escape, unescaped, token_kind, lex}
 use Rattle.jt_lexer.specs.Tokens.{Begins, IsTokensOf}
-use Rattle.jt_lexer.specs.Spelled.{escaped_byte, escaped, spelling, spelled, IsPrintable, ArePrintable, stop, kinds, placed}
+use Rattle.jt_lexer.specs.Spelled.{escaped_byte, escaped, spelling, spelled, IsPrintable, ArePrintable, stop, kinds, placed_from}
 use Rattle.jt_lexer.specs.Rules.{IsPiece}
 use Rattle.jt_lexer.proofs.TokenLaws.{Pieces, tokens_read}
 use Rattle.jt_lexer.proofs.Classes.{piece_sound}
@@ -40,11 +40,11 @@ all_unescaped (b ∷ bs) = byte_unescaped b (escaped bs) ∙ ap (λ z. b ∷ z) 
 
 -- ---- a token's spelling and the space behind it
 
-spelled_piece : (k : TokenKind) (z : Text) (s : Shape) → piece (spelling k ++ 32 ∷ z) ≡ Ok (s, length (spelling k)) → kind_of s (spelling k) ≡ Some k → IsPiece (spelling k ++ 32 ∷ z) (Some k) (length (spelling k))
+spelled_piece : (k : TokenKind) (z : Text) (s : Shape) → piece (spelling k ++ 32 ∷ z) ≡ Ok (s, length (spelling k)) → token_kind s (spelling k) ≡ Some k → IsPiece (spelling k ++ 32 ∷ z) (Some k) (length (spelling k))
 spelled_piece k z s e h =
     let text = spelling k ++ 32 ∷ z in
     let front : take (length (spelling k)) text ≡ spelling k = take-append_seam (spelling k) (32 ∷ z) in
-    subst (λ o. IsPiece text o (length (spelling k))) (ap (kind_of s) front ∙ h) (piece_sound text s (length (spelling k)) e)
+    subst (λ o. IsPiece text o (length (spelling k))) (ap (token_kind s) front ∙ h) (piece_sound text s (length (spelling k)) e)
 
 reads : (k : TokenKind) (z : Text) → IsPrintable k → IsPiece (spelling k ++ 32 ∷ z) (Some k) (length (spelling k))
 reads (kind.Number n) z h = spelled_piece (kind.Number n) z (shape.Number n) (number_reads n z h) refl
@@ -55,7 +55,7 @@ reads (kind.Sign s) z h = spelled_piece (kind.Sign s) z (shape.Sign s) (sign_rea
 -- ---- all tokens
 
 abbrev Stands : ℕ → List TokenKind → Type 0
-Stands at ks = (ps : Pieces) × (us : List Token) × (end : ℕ) × (placed at ks ≡ us ++ token stop end ∷ []) × Begins ps at (spelled ks) us end []
+Stands at ks = (ps : Pieces) × (us : List Token) × (end : ℕ) × (placed_from at ks ≡ us ++ token stop end ∷ []) × Begins ps at (spelled ks) us end []
 
 one_more : (k : TokenKind) (ks : List TokenKind) (at : ℕ) → IsPiece (spelling k ++ 32 ∷ spelled ks) (Some k) (length (spelling k)) → Stands (at + length (spelling k) + 1) ks → Stands at (k ∷ ks)
 one_more k ks at r h =
@@ -70,13 +70,13 @@ stands [] at h = ([], [], at, refl, (refl, refl, refl))
 stands (k ∷ ks) at h = one_more k ks at (reads k (spelled ks) h.0) (stands ks (at + length (spelling k) + 1) h.1)
 
 -- spelled tokens and the end token are the tokens of the text that they are spelled in
-pub spelled_tokens : (ks : List TokenKind) → ArePrintable ks → IsTokensOf (spelled ks) (placed 0 ks)
+pub spelled_tokens : (ks : List TokenKind) → ArePrintable ks → IsTokensOf (spelled ks) (placed_from 0 ks)
 spelled_tokens ks h = stands ks 0 h
 
-pub spelled_is_read : (ks : List TokenKind) → ArePrintable ks → lex (spelled ks) ≡ Ok (placed 0 ks)
-spelled_is_read ks h = tokens_read (spelled ks) (placed 0 ks) (spelled_tokens ks h)
+pub spelled_is_read : (ks : List TokenKind) → ArePrintable ks → lex (spelled ks) ≡ Ok (placed_from 0 ks)
+spelled_is_read ks h = tokens_read (spelled ks) (placed_from 0 ks) (spelled_tokens ks h)
 
-pub kinds_placed : (at : ℕ) (ks : List TokenKind) → kinds (placed at ks) ≡ ks ++ stop ∷ []
+pub kinds_placed : (at : ℕ) (ks : List TokenKind) → kinds (placed_from at ks) ≡ ks ++ stop ∷ []
 kinds_placed at [] = refl
 kinds_placed at (k ∷ ks) = ap (λ rest. k ∷ rest) (kinds_placed (at + length (spelling k) + 1) ks)
 
@@ -87,5 +87,5 @@ ok_tokens (Err e) = []
 -- whatever tokens the text has, they are of these kinds
 pub tokens_of_spelled : (ks : List TokenKind) (ts : List Token) → ArePrintable ks → IsTokensOf (spelled ks) ts → kinds ts ≡ ks ++ stop ∷ []
 tokens_of_spelled ks ts h r =
-    let same : ts ≡ placed 0 ks = ap ok_tokens (sym (tokens_read (spelled ks) ts r) ∙ spelled_is_read ks h) in
+    let same : ts ≡ placed_from 0 ks = ap ok_tokens (sym (tokens_read (spelled ks) ts r) ∙ spelled_is_read ks h) in
     ap kinds same ∙ kinds_placed 0 ks

@@ -17,7 +17,7 @@ use Rattle.jt_syntax.specs.declared.token.Sign.TheVariants as sign
 use Rattle.jt_syntax.specs.declared.token.TokenKind.{TokenKind}
 use Rattle.jt_syntax.specs.declared.token.TokenKind.TheVariants as kind
 use Rattle.jt_lexer.specs.Pieces.{Text}
-use Rattle.jt_lexer.specs.Spelled.{operator_spelling, sign_spelling, escaped_byte, escaped, spelling, spelled, is_first, is_inner, all_in_word, is_word, IsPrintable, ArePrintable, IsTextual, AreTextual}
+use Rattle.jt_lexer.specs.Spelled.{operator_spelling, sign_spelling, escaped_byte, escaped, spelling, spelled, is_first, is_name_byte, all_in_word, is_word, IsPrintable, ArePrintable, IsTextual, AreTextual}
 
 pub ascii_then : (b : ℕ) (z : Text) → b < 128 → IsUtf8 z → IsUtf8 (b ∷ z)
 ascii_then b z small u = IsUtf8-append (b ∷ []) z (subst IsUtf8 (encode_ascii b small) (IsUtf8-encode b (low_scalar b (omega (arith, small))))) u
@@ -88,7 +88,7 @@ escaped_text bs u = subst (λ z. IsUtf8 (escaped z)) u.1.1 (all_chars u.0 u.1.0)
 
 -- ---- names
 
-inner_ascii : (b : ℕ) → is_inner b ≡ true → b < 128
+inner_ascii : (b : ℕ) → is_name_byte b ≡ true → b < 128
 inner_ascii b h = grind (arith, and_parts, or_cases, leb-true, eqb-true, h)
 
 first_ascii : (b : ℕ) → is_first b ≡ true → b < 128
@@ -97,7 +97,7 @@ first_ascii b h = grind (arith, and_parts, or_cases, leb-true, eqb-true, h)
 inside_text : (w : Text) → all_in_word w ≡ true → IsUtf8 w
 inside_text [] h = IsUtf8-nil
 inside_text (b ∷ w) h =
-    let p = and_parts (is_inner b) (all_in_word w) h in
+    let p = and_parts (is_name_byte b) (all_in_word w) h in
     ascii_then b w (inner_ascii b p.0) (inside_text w p.1)
 
 word_text : (w : Text) → is_word w ≡ true → IsUtf8 w

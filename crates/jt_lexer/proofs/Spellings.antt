@@ -16,9 +16,9 @@ use Rattle.jt_syntax.specs.declared.token.Sign.{Sign}
 use Rattle.jt_syntax.specs.declared.token.Sign.TheVariants as sign
 use Rattle.jt_syntax.specs.declared.token.TokenKind.TheVariants as kind
 use Rattle.jt_lexer.specs.declared.piece.Shape.TheVariants as shape
-use Rattle.jt_lexer.specs.Pieces.{Text, piece, with_digit, number_from, is_escape, string_from, begins_word, goes_on, word_len, word, whole_len, is_base_threads, prefix_len, is_base_threads_word, is_threads_word, is_base_word, reserved, named, sign_at}
+use Rattle.jt_lexer.specs.Pieces.{Text, piece, with_digit, number_from, is_escape, string_from, begins_word, continues_word, word_len, word_at, whole_len, is_base_threads, prefix_len, is_base_threads_word, is_threads_word, is_base_word, reserved, word_piece, sign_at}
 use Rattle.jt_lexer.proofs.Fronts.{differs, at_number, at_word}
-use Rattle.jt_lexer.specs.Spelled.{operator_spelling, sign_spelling, HasSpelling, is_first, is_inner, all_in_word, IsSpelledName, escaped_byte, escaped}
+use Rattle.jt_lexer.specs.Spelled.{operator_spelling, sign_spelling, HasSpelling, is_first, is_name_byte, all_in_word, IsSpelledName, escaped_byte, escaped}
 
 operator_reads : (o : BinaryOperator) (z : Text) → piece (operator_spelling o ++ 32 ∷ z) ≡ Ok (shape.Sign (sign.Binary o), length (operator_spelling o))
 unfolding piece sign_at
@@ -28,7 +28,7 @@ operator_reads (binary.Connective connective.And) z = refl
 operator_reads _ z = refl
 
 pub sign_reads : (s : Sign) (z : Text) → HasSpelling (kind.Sign s) → piece (sign_spelling s ++ 32 ∷ z) ≡ Ok (shape.Sign s, length (sign_spelling s))
-unfolding piece word whole_len is_base_threads prefix_len is_base_threads_word is_threads_word is_base_word reserved sign_at
+unfolding piece word_at whole_len is_base_threads prefix_len is_base_threads_word is_threads_word is_base_word reserved sign_at
 sign_reads sign.Newline z h = absurd h
 sign_reads sign.Reserved z h = absurd h
 sign_reads sign.Stop z h = absurd h
@@ -127,7 +127,7 @@ text_reads bs z =
 
 no_equals : (w z : Text) → all_in_word w ≡ true → (slice_index (w ++ 32 ∷ z) 0 == 61) ≡ false
 no_equals [] z h = refl
-no_equals (b ∷ w) z h = differs is_inner b 61 (and_parts (is_inner b) (all_in_word w) h).0 refl
+no_equals (b ∷ w) z h = differs is_name_byte b 61 (and_parts (is_name_byte b) (all_in_word w) h).0 refl
 
 by_inner : (x y : Bool) → (x || y) ≡ true → (c : Bool) → c ≡ false → (x || (y && not c)) ≡ true
 by_inner true y h c e = refl
@@ -137,8 +137,8 @@ by_inner false false h c e = absurd (false≢true h)
 pub inner_len : (w z : Text) → all_in_word w ≡ true → word_len (w ++ 32 ∷ z) ≡ length w
 inner_len [] z h = refl
 inner_len (b ∷ w) z h =
-    let parts = and_parts (is_inner b) (all_in_word w) h in
-    let goes = by_inner (goes_on b) (b == 33) parts.0 (slice_index (w ++ 32 ∷ z) 0 == 61) (no_equals w z parts.1) in
+    let parts = and_parts (is_name_byte b) (all_in_word w) h in
+    let goes = by_inner (continues_word b) (b == 33) parts.0 (slice_index (w ++ 32 ∷ z) 0 == 61) (no_equals w z parts.1) in
     rw goes (ap suc (inner_len w z parts.1))
 
 begins : (b : ℕ) → is_first b ≡ true → begins_word b ≡ true
@@ -149,8 +149,8 @@ abbrev dotted : Text → Bool
 dotted [] = false
 dotted (c ∷ p) = c == 46 || (not (c == 32) && dotted p)
 
-no_dot : (c b : ℕ) → (c == 46) ≡ true → is_inner b ≡ true → (c == b) ≡ false
-no_dot c b h k = false_from_ne_true (c == b) (λ e. false≢true (sym (ap is_inner (sym (eqb-true c b e) ∙ eqb-true c 46 h)) ∙ k))
+no_dot : (c b : ℕ) → (c == 46) ≡ true → is_name_byte b ≡ true → (c == b) ≡ false
+no_dot c b h k = false_from_ne_true (c == b) (λ e. false≢true (sym (ap is_name_byte (sym (eqb-true c b e) ∙ eqb-true c 46 h)) ∙ k))
 
 no_prefix : (p w z : Text) → dotted p ≡ true → all_in_word w ≡ true → starts_with nat_eq (w ++ 32 ∷ z) p ≡ false
 no_prefix [] w z h k = absurd (false≢true h)
@@ -159,11 +159,11 @@ no_prefix (c ∷ p) [] z h k = elim (or_cases (c == 46) (not (c == 32) && dotted
   | inr d ↦ and_left (c == 32) _ (not-true (c == 32) (and_parts (not (c == 32)) (dotted p) d).0)
 ]
 no_prefix (c ∷ p) (b ∷ w) z h k = elim (or_cases (c == 46) (not (c == 32) && dotted p) h) [
-  | inl d ↦ and_left (c == b) _ (no_dot c b d (and_parts (is_inner b) (all_in_word w) k).0)
-  | inr d ↦ and_right (c == b) _ (no_prefix p w z (and_parts (not (c == 32)) (dotted p) d).1 (and_parts (is_inner b) (all_in_word w) k).1)
+  | inl d ↦ and_left (c == b) _ (no_dot c b d (and_parts (is_name_byte b) (all_in_word w) k).0)
+  | inr d ↦ and_right (c == b) _ (no_prefix p w z (and_parts (not (c == 32)) (dotted p) d).1 (and_parts (is_name_byte b) (all_in_word w) k).1)
 ]
 
-first_inner : (b : ℕ) → is_first b ≡ true → is_inner b ≡ true
+first_inner : (b : ℕ) → is_first b ≡ true → is_name_byte b ≡ true
 first_inner b h = grind (arith, or_cases, or_left, or_right, h)
 
 no_both_word : (w z : Text) → all_in_word w ≡ true → is_base_threads_word (w ++ 32 ∷ z) ≡ false
@@ -186,19 +186,19 @@ no_prefix_len : (w z : Text) → all_in_word w ≡ true → prefix_len (w ++ 32 
 unfolding prefix_len
 no_prefix_len w z h = rw (no_both_word w z h, no_threads_word w z h, no_base_word w z h)
 
-pub bare_word : (z : Text) (n : ℕ) → is_base_threads z ≡ false → prefix_len z ≡ 0 → whole_len z ≡ n → word z ≡ named (reserved (take n z)) (slice_index z 0 == 64) 0 (0 + n) z
-unfolding word
+pub bare_word : (z : Text) (n : ℕ) → is_base_threads z ≡ false → prefix_len z ≡ 0 → whole_len z ≡ n → word_at z ≡ word_piece (reserved (take n z)) (slice_index z 0 == 64) 0 (0 + n) z
+unfolding word_at
 bare_word z n h k l = rw (h, k, l)
 
 whole_inner : (b : ℕ) (w z : Text) → is_first b ≡ true → all_in_word w ≡ true → whole_len (b ∷ w ++ 32 ∷ z) ≡ suc (length w)
 unfolding whole_len
 whole_inner b w z h k =
     let at : (b == 64) ≡ false = differs is_first b 64 h refl in
-    rw at (inner_len (b ∷ w) z (and_from (is_inner b) (all_in_word w) (first_inner b h) k))
+    rw at (inner_len (b ∷ w) z (and_from (is_name_byte b) (all_in_word w) (first_inner b h) k))
 
-name_front : (b : ℕ) (w z : Text) → is_first b ≡ true → all_in_word w ≡ true → reserved (b ∷ w) ≡ None → word (b ∷ w ++ 32 ∷ z) ≡ Ok (shape.Name 0, suc (length w))
+name_front : (b : ℕ) (w z : Text) → is_first b ≡ true → all_in_word w ≡ true → reserved (b ∷ w) ≡ None → word_at (b ∷ w ++ 32 ∷ z) ≡ Ok (shape.Name 0, suc (length w))
 name_front b w z h k free =
-    let inner = and_from (is_inner b) (all_in_word w) (first_inner b h) k in
+    let inner = and_from (is_name_byte b) (all_in_word w) (first_inner b h) k in
     let at : (b == 64) ≡ false = differs is_first b 64 h refl in
     let cut : take (suc (length w)) (b ∷ w ++ 32 ∷ z) ≡ b ∷ w = take-append_seam (b ∷ w) (32 ∷ z) in
     let n : 0 + suc (length w) ≡ suc (length w) = omega arith in

@@ -4,10 +4,10 @@ use Rattle.std.specs.Prelude.{slice_index}
 use Rattle.std.proofs.lemmas.Bool.{cases_Bool, cases_eq, ne_eqb}
 use Rattle.std.proofs.Math.Seq.{take-append_seam}
 use Rattle.jt_lexer.specs.declared.piece.Shape.TheVariants as shape
-use Rattle.jt_lexer.specs.declared.piece.Fault.TheVariants as fault
+use Rattle.jt_lexer.specs.declared.piece.Defect.TheVariants as defect
 use Rattle.jt_lexer.specs.Pieces.{Text, is_escape, string_from}
 use Rattle.jt_lexer.specs.Lexer.{escape, unescaped}
-use Rattle.jt_lexer.specs.Rules.{Part, plain, escaped, written, meaning, AreParts, IsString, IsOpenString, IsNoPart, IsBadString}
+use Rattle.jt_lexer.specs.Rules.{Part, plain, escaped, part_bytes, meaning, AreParts, IsString, IsOpenString, IsNoPart, IsBadString}
 
 -- what stands between the quotes
 pub inside : (e : Text) → drop 1 (take (length (34 ∷ e ++ 34 ∷ []) - 1) (34 ∷ e ++ 34 ∷ [])) ≡ e
@@ -25,51 +25,51 @@ plain_step at b y h k l =
 escape_step : (at b : ℕ) (y : Text) → is_escape b ≡ true → string_from false at (92 ∷ b ∷ y) ≡ string_from false (at + 1 + 1) y
 escape_step at b y h = rw h refl
 
-parts_read : (ps : List Part) (at : ℕ) (y : Text) → AreParts ps → string_from false at (written ps ++ y) ≡ string_from false (at + length (written ps)) y
+parts_read : (ps : List Part) (at : ℕ) (y : Text) → AreParts ps → string_from false at (part_bytes ps ++ y) ≡ string_from false (at + length (part_bytes ps)) y
 parts_read [] at y h = let e : at ≡ at + 0 = omega arith in ap (λ k. string_from false k y) e
 parts_read (plain b ∷ ps) at y h =
-    let place : at + 1 + length (written ps) ≡ at + suc (length (written ps)) = omega arith in
-    plain_step at b (written ps ++ y) h.0 h.1 h.2 ∙ (parts_read ps (at + 1) y h.3 ∙ ap (λ k. string_from false k y) place)
+    let place : at + 1 + length (part_bytes ps) ≡ at + suc (length (part_bytes ps)) = omega arith in
+    plain_step at b (part_bytes ps ++ y) h.0 h.1 h.2 ∙ (parts_read ps (at + 1) y h.3 ∙ ap (λ k. string_from false k y) place)
 parts_read (escaped b ∷ ps) at y h =
-    let place : at + 1 + 1 + length (written ps) ≡ at + suc (suc (length (written ps))) = omega arith in
-    escape_step at b (written ps ++ y) h.0 ∙ (parts_read ps (at + 1 + 1) y h.1 ∙ ap (λ k. string_from false k y) place)
+    let place : at + 1 + 1 + length (part_bytes ps) ≡ at + suc (suc (length (part_bytes ps))) = omega arith in
+    escape_step at b (part_bytes ps ++ y) h.0 ∙ (parts_read ps (at + 1 + 1) y h.1 ∙ ap (λ k. string_from false k y) place)
 
-parts_mean : (ps : List Part) → AreParts ps → unescaped false (written ps) ≡ meaning ps
+parts_mean : (ps : List Part) → AreParts ps → unescaped false (part_bytes ps) ≡ meaning ps
 parts_mean [] h = refl
 parts_mean (plain b ∷ ps) h = let backslash = ne_eqb b 92 h.2 in rw backslash (ap (λ w. b ∷ w) (parts_mean ps h.3))
 parts_mean (escaped b ∷ ps) h = ap (λ w. escape b ∷ w) (parts_mean ps h.1)
 
 pub string_is : (z : Text) (bs : List ℕ) (n : ℕ) → IsString z bs n → string_from false 1 (drop 1 z) ≡ Ok (shape.Text, n)
 string_is z bs n h =
-    let long : 1 + length (written h.0) + 1 ≡ length (written h.0) + 2 = omega arith in
+    let long : 1 + length (part_bytes h.0) + 1 ≡ length (part_bytes h.0) + 2 = omega arith in
     ap (λ y. string_from false 1 (drop 1 y)) h.2 ∙ (parts_read h.0 1 (34 ∷ h.1) h.3 ∙ ap (λ k. Ok (shape.Text, k)) (long ∙ sym h.4))
 
 pub string_means : (z : Text) (bs : List ℕ) (n : ℕ) → IsString z bs n → unescaped false (drop 1 (take (length (take n z) - 1) (take n z))) ≡ bs
 string_means z bs n h =
-    let whole = 34 ∷ written h.0 ++ 34 ∷ [] in
-    let long : length whole ≡ length (written h.0) + 2 = omega (arith, length-append (written h.0) (34 ∷ [])) in
+    let whole = 34 ∷ part_bytes h.0 ++ 34 ∷ [] in
+    let long : length whole ≡ length (part_bytes h.0) + 2 = omega (arith, length-append (part_bytes h.0) (34 ∷ [])) in
     let front : take n z ≡ whole =
-    ap (take n) h.2 ∙ (ap (λ k. take k (34 ∷ written h.0 ++ 34 ∷ h.1)) (h.4 ∙ sym long)
-    ∙ (ap (λ y. take (length whole) (34 ∷ y)) (sym (append_assoc (written h.0) (34 ∷ []) h.1)) ∙ take-append_seam whole h.1)) in
-    ap (λ y. unescaped false (drop 1 (take (length y - 1) y))) front ∙ (ap (unescaped false) (inside (written h.0)) ∙ (parts_mean h.0 h.3 ∙ sym h.5))
+    ap (take n) h.2 ∙ (ap (λ k. take k (34 ∷ part_bytes h.0 ++ 34 ∷ h.1)) (h.4 ∙ sym long)
+    ∙ (ap (λ y. take (length whole) (34 ∷ y)) (sym (append_assoc (part_bytes h.0) (34 ∷ []) h.1)) ∙ take-append_seam whole h.1)) in
+    ap (λ y. unescaped false (drop 1 (take (length y - 1) y))) front ∙ (ap (unescaped false) (inside (part_bytes h.0)) ∙ (parts_mean h.0 h.3 ∙ sym h.5))
 
-pub open_string_is : (z : Text) → IsOpenString z → string_from false 1 (drop 1 z) ≡ Err fault.OpenString
-open_string_is z h = ap (λ y. string_from false 1 (drop 1 y)) h.1 ∙ (ap (string_from false 1) (sym (append-nil (written h.0))) ∙ parts_read h.0 1 [] h.2)
+pub open_string_is : (z : Text) → IsOpenString z → string_from false 1 (drop 1 z) ≡ Err defect.OpenString
+open_string_is z h = ap (λ y. string_from false 1 (drop 1 y)) h.1 ∙ (ap (string_from false 1) (sym (append-nil (part_bytes h.0))) ∙ parts_read h.0 1 [] h.2)
 
-no_escape : (at : ℕ) (y : Text) → is_escape (slice_index y 0) ≡ false → string_from true (at + 1) y ≡ Err (fault.BadCharacter at)
-no_escape at [] h = let e : at + 1 - 1 ≡ at = omega arith in ap (λ k. Err (fault.BadCharacter k)) e
-no_escape at (b ∷ y) h = let e : at + 1 - 1 ≡ at = omega arith in rw h (ap (λ k. Err (fault.BadCharacter k)) e)
+no_escape : (at : ℕ) (y : Text) → is_escape (slice_index y 0) ≡ false → string_from true (at + 1) y ≡ Err (defect.BadCharacter at)
+no_escape at [] h = let e : at + 1 - 1 ≡ at = omega arith in ap (λ k. Err (defect.BadCharacter k)) e
+no_escape at (b ∷ y) h = let e : at + 1 - 1 ≡ at = omega arith in rw h (ap (λ k. Err (defect.BadCharacter k)) e)
 
-no_part_step : (at : ℕ) (y : Text) → IsNoPart y → string_from false at y ≡ Err (fault.BadCharacter at)
+no_part_step : (at : ℕ) (y : Text) → IsNoPart y → string_from false at y ≡ Err (defect.BadCharacter at)
 no_part_step at [] (inl h) = absurd (omega (arith, h))
 no_part_step at [] (inr h) = absurd (omega (arith, h.0))
 no_part_step at (b ∷ y) (inl h) = ap (λ x. string_from false at (x ∷ y)) h
 no_part_step at (b ∷ y) (inr h) = ap (λ x. string_from false at (x ∷ y)) h.0 ∙ no_escape at y h.1
 
-pub bad_string_is : (z : Text) (n : ℕ) → IsBadString z n → string_from false 1 (drop 1 z) ≡ Err (fault.BadCharacter n)
+pub bad_string_is : (z : Text) (n : ℕ) → IsBadString z n → string_from false 1 (drop 1 z) ≡ Err (defect.BadCharacter n)
 bad_string_is z n h =
-    let place : 1 + length (written h.0) ≡ length (written h.0) + 1 = omega arith in
-    ap (λ y. string_from false 1 (drop 1 y)) h.2 ∙ (parts_read h.0 1 h.1 h.3 ∙ (no_part_step (1 + length (written h.0)) h.1 h.4 ∙ ap (λ k. Err (fault.BadCharacter k)) (place ∙ sym h.5)))
+    let place : 1 + length (part_bytes h.0) ≡ length (part_bytes h.0) + 1 = omega arith in
+    ap (λ y. string_from false 1 (drop 1 y)) h.2 ∙ (parts_read h.0 1 h.1 h.3 ∙ (no_part_step (1 + length (part_bytes h.0)) h.1 h.4 ∙ ap (λ k. Err (defect.BadCharacter k)) (place ∙ sym h.5)))
 
 -- ---- each text behind a quote is of parts, up to a quote, a byte that is no part, or its end
 
@@ -77,7 +77,7 @@ abbrev pub PartsEnd : Text → Type 0
 PartsEnd rest = (rest ≡ []) ⊎ (((y : Text) × (rest ≡ 34 ∷ y)) ⊎ IsNoPart rest)
 
 abbrev pub OfParts : Text → Type 0
-OfParts z = (ps : List Part) × (rest : Text) × (z ≡ written ps ++ rest) × AreParts ps × PartsEnd rest
+OfParts z = (ps : List Part) × (rest : Text) × (z ≡ part_bytes ps ++ rest) × AreParts ps × PartsEnd rest
 
 with_plain : (b : ℕ) (z : Text) → b ≢ 34 → b ≢ 36 → b ≢ 92 → OfParts z → OfParts (b ∷ z)
 with_plain b z h k l p = (plain b ∷ p.0, p.1, ap (λ y. b ∷ y) p.2, (h, k, l, p.3), p.4)

@@ -15,9 +15,9 @@ use Rattle.jt_syntax.specs.declared.token.Token.{Token}
 use Rattle.jt_syntax.specs.declared.token.TokenKind.{TokenKind}
 use Rattle.jt_syntax.specs.declared.token.TokenKind.TheVariants as kind
 use Rattle.jt_lexer.specs.Words.{signs}
-use Rattle.jt_lexer.specs.Pieces.{Text, is_blank, is_escape, goes_on}
+use Rattle.jt_lexer.specs.Pieces.{Text, is_blank, is_escape, continues_word}
 use Rattle.jt_lexer.specs.Lexer.{escape}
-use Rattle.jt_lexer.specs.Rules.{IsRun, in_line, in_number, in_word, in_whole, Mark, opening, closing, other, Reads, size, Part, plain, escaped, written, meaning, AreParts, BeginsAt, IsWord, IsSign, IsString, IsSkipped, IsToken, IsPiece}
+use Rattle.jt_lexer.specs.Rules.{IsSpan, in_line, in_number, in_word, in_whole, CommentMark, opening, closing, other, ReadsMarks, size, Part, plain, escaped, part_bytes, meaning, AreParts, BeginsAt, IsWord, IsSign, IsString, IsSkipped, IsToken, IsPiece}
 use Rattle.jt_lexer.specs.Tokens.{IsTokensOf}
 use Rattle.jt_lexer.specs.Spelled.{IsTextual, AreTextual, kinds}
 use Rattle.jt_lexer.proofs.LexLemmas.{drop_twice}
@@ -37,7 +37,7 @@ behind_last z n u w a =
     let e : n - 1 + 1 ≡ n = omega (arith, w.0) in
     subst (λ k. IsUtf8 (drop k z)) e (behind z (n - 1) u (omega (arith, w.0, w.1)) a)
 
-behind_run : (test : ℕ → Bool) (z : Text) (n : ℕ) → ((k : ℕ) → test k ≡ true → slice_index z k < 128) → IsRun test n → n ≤ length z → IsUtf8 z → IsUtf8 (drop n z)
+behind_run : (test : ℕ → Bool) (z : Text) (n : ℕ) → ((k : ℕ) → test k ≡ true → slice_index z k < 128) → IsSpan test n → n ≤ length z → IsUtf8 z → IsUtf8 (drop n z)
 behind_run test z zero a r l u = u
 behind_run test z (suc n) a r l u =
     let e : n + 1 ≡ suc n = omega arith in
@@ -50,7 +50,7 @@ number_ascii z (suc k) h = elim (or_cases (is_ascii_digit (slice_index z (suc k)
   | inr m ↦ grind (arith, and_parts, eqb-true, m)
 ]
 
-byte_ascii : (b c : ℕ) → (goes_on b || (b == 33 && not (c == 61))) ≡ true → b < 128
+byte_ascii : (b c : ℕ) → (continues_word b || (b == 33 && not (c == 61))) ≡ true → b < 128
 byte_ascii b c h = grind (arith, and_parts, or_cases, leb-true, eqb-true, h)
 
 whole_ascii : (z : Text) (k : ℕ) → in_whole z k ≡ true → slice_index z k < 128
@@ -74,13 +74,13 @@ behind_line z n h l u = elim (cases_lt n (length z)) [
   | inr all ↦ let e : length z ≡ n = omega (arith, l, all) in IsUtf8-drop z n u (subst (IsCharBoundary z) e (IsCharBoundary-end z))
 ]
 
-marks_left : (ms : List Mark) (z rest : Text) → Reads ms z rest → drop (size ms) z ≡ rest
+marks_left : (ms : List CommentMark) (z rest : Text) → ReadsMarks ms z rest → drop (size ms) z ≡ rest
 marks_left [] z rest h = h
 marks_left (opening ∷ ms) z rest h = ap (drop (2 + size ms)) h.1 ∙ (sym (drop_twice 2 (size ms) (35 ∷ 61 ∷ h.0)) ∙ marks_left ms h.0 rest h.2)
 marks_left (closing ∷ ms) z rest h = ap (drop (2 + size ms)) h.1 ∙ (sym (drop_twice 2 (size ms) (61 ∷ 35 ∷ h.0)) ∙ marks_left ms h.0 rest h.2)
 marks_left (other b ∷ ms) z rest h = ap (drop (1 + size ms)) h.1 ∙ (sym (drop_twice 1 (size ms) (b ∷ h.0)) ∙ marks_left ms h.0 rest h.4)
 
-comment_last : (inside rest : Text) (ms : List Mark) → Reads ms inside (61 ∷ 35 ∷ rest) → slice_index (35 ∷ 61 ∷ inside) (size ms + 4 - 1) ≡ 35
+comment_last : (inside rest : Text) (ms : List CommentMark) → ReadsMarks ms inside (61 ∷ 35 ∷ rest) → slice_index (35 ∷ 61 ∷ inside) (size ms + 4 - 1) ≡ 35
 comment_last inside rest ms h =
     let place : size ms + 4 - 1 ≡ suc (suc (size ms + 1)) = omega arith in
     ap (slice_index (35 ∷ 61 ∷ inside)) place ∙ (sym (get_or-drop (size ms) inside 1 0) ∙ ap (λ y. slice_index y 1) (marks_left ms inside (61 ∷ 35 ∷ rest) h))
@@ -154,7 +154,7 @@ behind_sign z s n h w u =
 
 -- parts that begin with bytes of 128 or more stand for them
 abbrev Stripped : Text → Text → List Part → Type 0
-Stripped e y ps = (qs : List Part) × (written qs ≡ y) × (meaning ps ≡ e ++ meaning qs) × AreParts qs
+Stripped e y ps = (qs : List Part) × (part_bytes qs ≡ y) × (meaning ps ≡ e ++ meaning qs) × AreParts qs
 
 head_of : (b c : ℕ) (w y : Text) → b ∷ w ≡ c ∷ y → b ≡ c
 head_of b c w y e = ap (λ z. slice_index z 0) e
@@ -162,36 +162,36 @@ head_of b c w y e = ap (λ z. slice_index z 0) e
 tail_of : (b c : ℕ) (w y : Text) → b ∷ w ≡ c ∷ y → w ≡ y
 tail_of b c w y e = ap (drop 1) e
 
-strip : (e y : Text) (ps : List Part) → ((k : ℕ) → k < length e → 128 ≤ get_or e k 0) → written ps ≡ e ++ y → AreParts ps → Stripped e y ps
+strip : (e y : Text) (ps : List Part) → ((k : ℕ) → k < length e → 128 ≤ get_or e k 0) → part_bytes ps ≡ e ++ y → AreParts ps → Stripped e y ps
 strip [] y ps h w a = (ps, w, refl, a)
 strip (c ∷ e) y [] h w a = absurd (omega (arith, ap length w))
-strip (c ∷ e) y (escaped b ∷ ps) h w a = absurd (omega (arith, head_of 92 c (b ∷ written ps) (e ++ y) w, h 0 (omega arith)))
+strip (c ∷ e) y (escaped b ∷ ps) h w a = absurd (omega (arith, head_of 92 c (b ∷ part_bytes ps) (e ++ y) w, h 0 (omega arith)))
 strip (c ∷ e) y (plain b ∷ ps) h w a =
-    let r = strip e y ps (λ k l. h (suc k) (omega (arith, l))) (tail_of b c (written ps) (e ++ y) w) a.3 in
-    (r.0, r.1, ap (λ x. x ∷ meaning ps) (head_of b c (written ps) (e ++ y) w) ∙ ap (λ x. c ∷ x) r.2, r.3)
+    let r = strip e y ps (λ k l. h (suc k) (omega (arith, l))) (tail_of b c (part_bytes ps) (e ++ y) w) a.3 in
+    (r.0, r.1, ap (λ x. x ∷ meaning ps) (head_of b c (part_bytes ps) (e ++ y) w) ∙ ap (λ x. c ∷ x) r.2, r.3)
 
 escape_ascii : (b : ℕ) → is_escape b ≡ true → (b < 128) × (escape b < 128)
 unfolding escape
 escape_ascii b h = (grind (arith, or_cases, eqb-true, h), grind (arith, or_cases, eqb-true, h))
 
-high_part : (c : ℕ) (cs : List ℕ) (ps : List Part) → scalar c ≡ true → 128 ≤ c → written ps ≡ encode c ++ encodes cs → AreParts ps → ((qs : List Part) → written qs ≡ encodes cs → AreParts qs → IsUtf8 (meaning qs)) → IsUtf8 (meaning ps)
+high_part : (c : ℕ) (cs : List ℕ) (ps : List Part) → scalar c ≡ true → 128 ≤ c → part_bytes ps ≡ encode c ++ encodes cs → AreParts ps → ((qs : List Part) → part_bytes qs ≡ encodes cs → AreParts qs → IsUtf8 (meaning qs)) → IsUtf8 (meaning ps)
 high_part c cs ps ok h w a rec =
     let r = strip (encode c) (encodes cs) ps (all_high c h) w a in
     subst IsUtf8 (sym r.2) (IsUtf8-append (encode c) (meaning r.0) (IsUtf8-encode c ok) (rec r.0 r.1 r.3))
 
-low_part : (b c : ℕ) (cs : List ℕ) (ps : List Part) → c < 128 → b ∷ written ps ≡ encode c ++ encodes cs → AreParts ps → ((qs : List Part) → written qs ≡ encodes cs → AreParts qs → IsUtf8 (meaning qs)) → IsUtf8 (b ∷ meaning ps)
+low_part : (b c : ℕ) (cs : List ℕ) (ps : List Part) → c < 128 → b ∷ part_bytes ps ≡ encode c ++ encodes cs → AreParts ps → ((qs : List Part) → part_bytes qs ≡ encodes cs → AreParts qs → IsUtf8 (meaning qs)) → IsUtf8 (b ∷ meaning ps)
 low_part b c cs ps h w a rec =
-    let whole : b ∷ written ps ≡ c ∷ encodes cs = w ∙ ap (λ e. e ++ encodes cs) (encode_ascii c h) in
-    let same = head_of b c (written ps) (encodes cs) whole in
-    ascii_then b (meaning ps) (omega (arith, h, same)) (rec ps (tail_of b c (written ps) (encodes cs) whole) a)
+    let whole : b ∷ part_bytes ps ≡ c ∷ encodes cs = w ∙ ap (λ e. e ++ encodes cs) (encode_ascii c h) in
+    let same = head_of b c (part_bytes ps) (encodes cs) whole in
+    ascii_then b (meaning ps) (omega (arith, h, same)) (rec ps (tail_of b c (part_bytes ps) (encodes cs) whole) a)
 
 -- an escape's second byte is a character of its own
-escape_part : (b : ℕ) (cs : List ℕ) (ps : List Part) → is_escape b ≡ true → b ∷ written ps ≡ encodes cs → (d : ℕ) (ds : List ℕ) → cs ≡ d ∷ ds → written ps ≡ encodes ds
+escape_part : (b : ℕ) (cs : List ℕ) (ps : List Part) → is_escape b ≡ true → b ∷ part_bytes ps ≡ encodes cs → (d : ℕ) (ds : List ℕ) → cs ≡ d ∷ ds → part_bytes ps ≡ encodes ds
 escape_part b cs ps h w d ds e =
-    let whole : encode d ++ encodes ds ≡ encode b ++ written ps = ap encodes (sym e) ∙ (sym w ∙ ap (λ x. x ++ written ps) (sym (encode_ascii b (escape_ascii b h).0))) in
-    sym (encode_same d b (encodes ds) (written ps) whole).1
+    let whole : encode d ++ encodes ds ≡ encode b ++ part_bytes ps = ap encodes (sym e) ∙ (sym w ∙ ap (λ x. x ++ part_bytes ps) (sym (encode_ascii b (escape_ascii b h).0))) in
+    sym (encode_same d b (encodes ds) (part_bytes ps) whole).1
 
-meaning_text : (cs : List ℕ) (ps : List Part) → scalars cs ≡ true → written ps ≡ encodes cs → AreParts ps → IsUtf8 (meaning ps)
+meaning_text : (cs : List ℕ) (ps : List Part) → scalars cs ≡ true → part_bytes ps ≡ encodes cs → AreParts ps → IsUtf8 (meaning ps)
 meaning_text cs [] ok w a = IsUtf8-nil
 meaning_text [] (plain b ∷ ps) ok w a = absurd (omega (arith, ap length w))
 meaning_text [] (escaped b ∷ ps) ok w a = absurd (omega (arith, ap length w))
@@ -212,25 +212,25 @@ meaning_text (c ∷ d ∷ cs) (escaped b ∷ ps) ok w a =
     let q = and_parts (scalar d) (scalars cs) p.1 in
     elim (cases_lt c 128) [
       | inl low ↦
-          let whole : 92 ∷ b ∷ written ps ≡ c ∷ encodes (d ∷ cs) = w ∙ ap (λ e. e ++ encodes (d ∷ cs)) (encode_ascii c low) in
-          let rest = tail_of 92 c (b ∷ written ps) (encodes (d ∷ cs)) whole in
+          let whole : 92 ∷ b ∷ part_bytes ps ≡ c ∷ encodes (d ∷ cs) = w ∙ ap (λ e. e ++ encodes (d ∷ cs)) (encode_ascii c low) in
+          let rest = tail_of 92 c (b ∷ part_bytes ps) (encodes (d ∷ cs)) whole in
           ascii_then (escape b) (meaning ps) (escape_ascii b a.0).1 (meaning_text cs ps q.1 (escape_part b (d ∷ cs) ps a.0 rest d cs refl) a.1)
       | inr high ↦ high_part c (d ∷ cs) (escaped b ∷ ps) p.0 high w a (λ qs v k. meaning_text (d ∷ cs) qs p.1 v k)
     ]
 
 string_text : (z : Text) (bs : List ℕ) (n : ℕ) → IsString z bs n → IsUtf8 z → IsUtf8 bs
 string_text z bs n h u =
-    let behind_quote : IsUtf8 (written h.0 ++ 34 ∷ h.1) = behind (34 ∷ written h.0 ++ 34 ∷ h.1) 0 (subst IsUtf8 h.2 u) (omega arith) (omega arith) in
-    let all : length (written h.0 ++ 34 ∷ h.1) ≡ length (written h.0) + suc (length h.1) = length-append (written h.0) (34 ∷ h.1) in
-    let quote : slice_index (written h.0 ++ 34 ∷ h.1) (length (written h.0)) ≡ 34 = get_or-append_seam (written h.0) 34 h.1 0 in
-    let cut = IsUtf8-take (written h.0 ++ 34 ∷ h.1) (length (written h.0)) behind_quote (IsCharBoundary-before_ascii _ _ (omega (arith, all)) (omega (arith, quote))) in
-    let inside : IsUtf8 (written h.0) = subst IsUtf8 (take-append_seam (written h.0) (34 ∷ h.1)) cut in
+    let behind_quote : IsUtf8 (part_bytes h.0 ++ 34 ∷ h.1) = behind (34 ∷ part_bytes h.0 ++ 34 ∷ h.1) 0 (subst IsUtf8 h.2 u) (omega arith) (omega arith) in
+    let all : length (part_bytes h.0 ++ 34 ∷ h.1) ≡ length (part_bytes h.0) + suc (length h.1) = length-append (part_bytes h.0) (34 ∷ h.1) in
+    let quote : slice_index (part_bytes h.0 ++ 34 ∷ h.1) (length (part_bytes h.0)) ≡ 34 = get_or-append_seam (part_bytes h.0) 34 h.1 0 in
+    let cut = IsUtf8-take (part_bytes h.0 ++ 34 ∷ h.1) (length (part_bytes h.0)) behind_quote (IsCharBoundary-before_ascii _ _ (omega (arith, all)) (omega (arith, quote))) in
+    let inside : IsUtf8 (part_bytes h.0) = subst IsUtf8 (take-append_seam (part_bytes h.0) (34 ∷ h.1)) cut in
     subst IsUtf8 (sym h.5) (meaning_text inside.0 h.0 inside.1.0 (sym inside.1.1) h.3)
 
 behind_string : (z : Text) (bs : List ℕ) (n : ℕ) → IsString z bs n → (1 ≤ n) × (n ≤ length z) → IsUtf8 z → IsUtf8 (drop n z)
 behind_string z bs n h w u =
-    let place : n - 1 ≡ suc (length (written h.0)) = omega (arith, h.4) in
-    let last : slice_index z (n - 1) ≡ 34 = ap (slice_index z) place ∙ (ap (λ y. slice_index y (suc (length (written h.0)))) h.2 ∙ get_or-append_seam (written h.0) 34 h.1 0) in
+    let place : n - 1 ≡ suc (length (part_bytes h.0)) = omega (arith, h.4) in
+    let last : slice_index z (n - 1) ≡ 34 = ap (slice_index z) place ∙ (ap (λ y. slice_index y (suc (length (part_bytes h.0)))) h.2 ∙ get_or-append_seam (part_bytes h.0) 34 h.1 0) in
     behind_last z n u w (omega (arith, last))
 
 -- ---- all tokens

@@ -9,11 +9,11 @@ use Rattle.jt_syntax.specs.declared.token.TokenKind.TheVariants as kind
 use Rattle.jt_lexer.specs.declared.error.LexError.{LexError}
 use Rattle.jt_lexer.specs.declared.error.LexError.TheVariants as error
 use Rattle.jt_lexer.specs.declared.piece.Shape.{Shape}
-use Rattle.jt_lexer.specs.declared.piece.Fault.{Fault}
+use Rattle.jt_lexer.specs.declared.piece.Defect.{Defect}
 use Rattle.jt_lexer.specs.Pieces.{Text, piece}
-use Rattle.jt_lexer.specs.Lexer.{Lexed, token, kind_of, tokens_of, refusal, before, lex_from, lex}
+use Rattle.jt_lexer.specs.Lexer.{Lexed, token, token_kind, tokens_of, lex_error, put_before, lex_from, lex}
 use Rattle.jt_lexer.specs.Rules.{IsPiece, IsRefusal}
-use Rattle.jt_lexer.specs.Tokens.{Begins, IsTokensOf, RefusesAt, Refuses}
+use Rattle.jt_lexer.specs.Tokens.{Begins, IsTokensOf, RefusesAt, RefusesText}
 use Rattle.jt_lexer.proofs.LexLemmas.{turn, before-append, nothing_before, refused_here, drop_twice}
 use Rattle.jt_lexer.proofs.Classes.{piece_is, refusal_is, piece_sound, refusal_sound, piece_or_refusal}
 use Rattle.jt_lexer.proofs.Lengths.{within}
@@ -21,23 +21,23 @@ use Rattle.jt_lexer.proofs.Lengths.{within}
 abbrev pub Pieces : Type 0
 Pieces = List (Option TokenKind × ℕ)
 
-turn_of : (at : ℕ) (z : Text) (o : Option TokenKind) (n : ℕ) → IsPiece z o n → lex_from 0 at z ≡ before (tokens_of o at) (lex_from 0 (at + n) (drop n z))
+turn_of : (at : ℕ) (z : Text) (o : Option TokenKind) (n : ℕ) → IsPiece z o n → lex_from 0 at z ≡ put_before (tokens_of o at) (lex_from 0 (at + n) (drop n z))
 turn_of at z o n h =
     let g = piece_is z o n h in
     let w = within z o n h in
-    turn at z g.0 n g.1 w.0 w.1 ∙ ap (λ k. before (tokens_of k at) (lex_from 0 (at + n) (drop n z))) g.2
+    turn at z g.0 n g.1 w.0 w.1 ∙ ap (λ k. put_before (tokens_of k at) (lex_from 0 (at + n) (drop n z))) g.2
 
-begun : (ps : Pieces) (at : ℕ) (z : Text) (ts : List Token) (end : ℕ) (rest : Text) → Begins ps at z ts end rest → lex_from 0 at z ≡ before ts (lex_from 0 end rest)
+begun : (ps : Pieces) (at : ℕ) (z : Text) (ts : List Token) (end : ℕ) (rest : Text) → Begins ps at z ts end rest → lex_from 0 at z ≡ put_before ts (lex_from 0 end rest)
 begun [] at z ts end rest h =
     nothing_before (lex_from 0 at z)
-    ∙ (ap (λ us. before us (lex_from 0 at z)) (sym h.2)
-    ∙ (ap (λ k. before ts (lex_from 0 k z)) (sym h.0) ∙ ap (λ y. before ts (lex_from 0 end y)) (sym h.1)))
+    ∙ (ap (λ us. put_before us (lex_from 0 at z)) (sym h.2)
+    ∙ (ap (λ k. put_before ts (lex_from 0 k z)) (sym h.0) ∙ ap (λ y. put_before ts (lex_from 0 end y)) (sym h.1)))
 begun (p ∷ ps) at z ts end rest h =
     let us = h.0 in
     let first = tokens_of p.0 at in
     turn_of at z p.0 p.1 h.1
-    ∙ (ap (before first) (begun ps (at + p.1) (drop p.1 z) us end rest h.3)
-    ∙ (before-append first us (lex_from 0 end rest) ∙ ap (λ vs. before vs (lex_from 0 end rest)) (sym h.2)))
+    ∙ (ap (put_before first) (begun ps (at + p.1) (drop p.1 z) us end rest h.3)
+    ∙ (before-append first us (lex_from 0 end rest) ∙ ap (λ vs. put_before vs (lex_from 0 end rest)) (sym h.2)))
 
 -- the only list of tokens
 pub tokens_read : (text : Text) (ts : List Token) → IsTokensOf text ts → lex text ≡ Ok ts
@@ -49,7 +49,7 @@ pub refusal_read : (text : Text) (e : LexError) → RefusesAt text e → lex tex
 unfolding lex
 refusal_read text e h =
     let r = refusal_is h.3 h.2 e h.5 in
-    begun h.0 0 text h.1 h.2 h.3 h.6 ∙ (ap (before h.1) (refused_here h.2 h.3 r.0 r.1 h.4) ∙ ap Err (sym r.2))
+    begun h.0 0 text h.1 h.2 h.3 h.6 ∙ (ap (put_before h.1) (refused_here h.2 h.3 r.0 r.1 h.4) ∙ ap Err (sym r.2))
 
 -- ---- each text has tokens or a refusal
 
@@ -120,25 +120,25 @@ Found at text ts = (ps : Pieces) × Begins ps 0 text ts at (drop at text)
 pub found_none : (text : Text) (ts : List Token) → ts ≡ [] → Found 0 text ts
 found_none text ts e = ([], (refl, refl, e))
 
-pub found_more : (text rest : Text) (at : ℕ) (ts new : List Token) (s : Shape) (n : ℕ) → Found at text ts → rest ≡ drop at text → piece rest ≡ Ok (s, n) → new ≡ ts ++ tokens_of (kind_of s (take n rest)) at → Found (at + n) text new
+pub found_more : (text rest : Text) (at : ℕ) (ts new : List Token) (s : Shape) (n : ℕ) → Found at text ts → rest ≡ drop at text → piece rest ≡ Ok (s, n) → new ≡ ts ++ tokens_of (token_kind s (take n rest)) at → Found (at + n) text new
 found_more text rest at ts new s n h r e k =
-    let o = kind_of s (take n rest) in
+    let o = token_kind s (take n rest) in
     let ps = h.0 ++ (o, n) ∷ [] in
     let p : IsPiece (drop at text) o n = subst (λ y. IsPiece y o n) r (piece_sound rest s n e) in
     let g = further h.0 0 text ts at (drop at text) o n h.1 p in
     (ps, subst (λ us. Begins ps 0 text us (at + n) (drop (at + n) text)) (sym k) (subst (Begins ps 0 text (ts ++ tokens_of o at) (at + n)) (drop_twice at n text) g))
 
-refuses : (text : Text) (e : LexError) → RefusesAt text e → Refuses text e
+refuses : (text : Text) (e : LexError) → RefusesAt text e → RefusesText text e
 refuses text (error.BadCharacter n) h = h
 refuses text (error.OpenString n) h = h
 refuses text (error.NumberTooLarge n) h = h
 refuses text error.OutOfMemory h = tt
 
-pub found_fault : (text bytes rest : Text) (at : ℕ) (ts : List Token) (f : Fault) (e : LexError) → bytes ≡ text → Found at bytes ts → rest ≡ drop at bytes → at < length bytes → piece rest ≡ Err f → e ≡ refusal f at → Refuses text e
-found_fault text bytes rest at ts f e b h r more k l =
+pub found_defect : (text bytes rest : Text) (at : ℕ) (ts : List Token) (f : Defect) (e : LexError) → bytes ≡ text → Found at bytes ts → rest ≡ drop at bytes → at < length bytes → piece rest ≡ Err f → e ≡ lex_error f at → RefusesText text e
+found_defect text bytes rest at ts f e b h r more k l =
     let left : 0 < length (drop at bytes) = omega (arith, length-drop at bytes, more) in
-    let why : IsRefusal (drop at bytes) at e = subst (IsRefusal (drop at bytes) at) (sym l) (subst (λ y. IsRefusal y at (refusal f at)) r (refusal_sound rest at f k)) in
-    subst (λ y. Refuses y e) b (refuses bytes e (h.0, ts, at, drop at bytes, left, why, h.1))
+    let why : IsRefusal (drop at bytes) at e = subst (IsRefusal (drop at bytes) at) (sym l) (subst (λ y. IsRefusal y at (lex_error f at)) r (refusal_sound rest at f k)) in
+    subst (λ y. RefusesText y e) b (refuses bytes e (h.0, ts, at, drop at bytes, left, why, h.1))
 
 -- ---- pieces fill the text, and there are no more tokens than bytes
 

@@ -9,10 +9,10 @@ use Rattle.std.proofs.lemmas.Slice.Eq.{bytes_eq-Decides, starts_is}
 use Rattle.std.proofs.lemmas.Bool.Decides.{Decides-eqb}
 use Rattle.jt_syntax.specs.declared.token.Sign.{Sign}
 use Rattle.jt_lexer.specs.declared.piece.Shape.TheVariants as shape
-use Rattle.jt_lexer.specs.declared.piece.Fault.TheVariants as fault
+use Rattle.jt_lexer.specs.declared.piece.Defect.TheVariants as defect
 use Rattle.jt_lexer.specs.Words.{of_threads, of_base}
-use Rattle.jt_lexer.specs.Pieces.{Text, begins_word, word_len, whole_len, is_listed, begins_with_one, is_of_threads, is_of_base, is_base_threads_word, is_threads_word, is_base_word, prefix_len, is_base_threads, reserved, named, word}
-use Rattle.jt_lexer.specs.Rules.{IsRun, in_word, in_whole, IsPrefixed, HasPrefix, BeginsAt, IsBaseThreads, IsWord, IsName, IsKeyword, IsMacroCall, IsNoMacro}
+use Rattle.jt_lexer.specs.Pieces.{Text, begins_word, word_len, whole_len, is_listed, begins_with_one, is_of_threads, is_of_base, is_base_threads_word, is_threads_word, is_base_word, prefix_len, is_base_threads, reserved, word_piece, word_at}
+use Rattle.jt_lexer.specs.Rules.{IsSpan, in_word, in_whole, IsPrefixed, HasPrefix, BeginsAt, IsBaseThreads, IsWord, IsName, IsKeyword, IsMacroCall, IsNoMacro}
 use Rattle.jt_lexer.proofs.Runs.{run_unique, no_run, word_len_run, whole_len_run}
 
 -- ---- the listed words
@@ -183,15 +183,15 @@ is_base_threads_piece z h =
 
 -- ---- words
 
-word_is : (z : Text) (start m : ℕ) → IsWord z start m → word z ≡ named (reserved (take m (drop start z))) (slice_index (drop start z) 0 == 64) start (start + m) z
-unfolding word
+word_is : (z : Text) (start m : ℕ) → IsWord z start m → word_at z ≡ word_piece (reserved (take m (drop start z))) (slice_index (drop start z) 0 == 64) start (start + m) z
+unfolding word_at
 word_is z start m h =
     let base : is_base_threads z ≡ false = false_from_ne_true (is_base_threads z) (λ e. h.1 (is_base_threads_piece z e)) in
     let begin : prefix_len z ≡ start = start_is z start h.2 in
     let long : whole_len (drop start z) ≡ m = run_unique (in_whole (drop start z)) (whole_len (drop start z)) m (whole_len_run (drop start z)) h.3 in
     rw (base, begin, long)
 
-pub name_is : (z : Text) (w : List ℕ) (n : ℕ) (h : IsName z w n) → word z ≡ Ok (shape.Name h.0, n)
+pub name_is : (z : Text) (w : List ℕ) (n : ℕ) (h : IsName z w n) → word_at z ≡ Ok (shape.Name h.0, n)
 name_is z w n h =
     let free : reserved (take h.1 (drop h.0 z)) ≡ None = ap reserved (sym h.3) ∙ h.4 in
     let bare : (slice_index (drop h.0 z) 0 == 64) ≡ false = ne_eqb (slice_index (drop h.0 z) 0) 64 h.5 in
@@ -200,7 +200,7 @@ name_is z w n h =
 pub name_means : (z : Text) (w : List ℕ) (n : ℕ) (h : IsName z w n) → drop h.0 (take n z) ≡ w
 name_means z w n h = ap (λ k. drop h.0 (take k z)) h.6 ∙ (drop-take h.0 h.1 z ∙ sym h.3)
 
-pub keyword_is : (z : Text) (s : Sign) (n : ℕ) → IsKeyword z s n → word z ≡ Ok (shape.Sign s, n)
+pub keyword_is : (z : Text) (s : Sign) (n : ℕ) → IsKeyword z s n → word_at z ≡ Ok (shape.Sign s, n)
 keyword_is z s n h =
     let bare = slice_index (drop h.0 z) 0 in
     let open_behind : (bare == 64 && slice_index z (h.0 + h.1) == 40) ≡ false = false_from_ne_true _ (λ e.
@@ -208,18 +208,18 @@ keyword_is z s n h =
     h.5 (eqb-true bare 64 parts.0) (ap (slice_index z) h.4 ∙ eqb-true (slice_index z (h.0 + h.1)) 40 parts.1)) in
     word_is z h.0 h.1 h.2 ∙ rw (h.3, open_behind) (ap (λ k. Ok (shape.Sign s, k)) (sym h.4))
 
-pub macro_call_is : (z : Text) (n : ℕ) → IsMacroCall z n → word z ≡ Err (fault.BadCharacter n)
+pub macro_call_is : (z : Text) (n : ℕ) → IsMacroCall z n → word_at z ≡ Err (defect.BadCharacter n)
 macro_call_is z n h =
     let bare = slice_index (drop h.0 z) 0 in
     let open_behind : (bare == 64 && slice_index z (h.0 + h.1) == 40) ≡ true = and_from (bare == 64) _ (eq-eqb bare 64 h.6) (eq-eqb (slice_index z (h.0 + h.1)) 40 (ap (slice_index z) (sym h.5) ∙ h.7)) in
-    word_is z h.0 h.1 h.3 ∙ rw (h.4, open_behind) (ap (λ k. Err (fault.BadCharacter k)) (sym h.5))
+    word_is z h.0 h.1 h.3 ∙ rw (h.4, open_behind) (ap (λ k. Err (defect.BadCharacter k)) (sym h.5))
 
 at_no_prefix : (z : Text) → slice_index z 0 ≡ 64 → (n : ℕ) → HasPrefix z n → ⊥
 at_no_prefix z h n (inl p) = let b : slice_index z 0 ≡ 66 = starts_first 66 (codes "ase.Threads.") z p.1.0 in absurd (omega (arith, h, b))
 at_no_prefix z h n (inr (inl p)) = let b : slice_index z 0 ≡ 84 = starts_first 84 (codes "hreads.") z p.1.0 in absurd (omega (arith, h, b))
 at_no_prefix z h n (inr (inr p)) = let b : slice_index z 0 ≡ 66 = starts_first 66 (codes "ase.") z p.1.0 in absurd (omega (arith, h, b))
 
-at_word : (z : Text) (m : ℕ) → slice_index z 0 ≡ 64 → IsRun (in_whole z) m → IsWord z 0 m
+at_word : (z : Text) (m : ℕ) → slice_index z 0 ≡ 64 → IsSpan (in_whole z) m → IsWord z 0 m
 at_word z m h r = (
   ap begins_word h,
   λ b. let first : slice_index z 0 ≡ 66 = starts_first 66 (codes "ase.Threads") z b.0 in absurd (omega (arith, h, first)),
@@ -227,7 +227,7 @@ at_word z m h r = (
   r,
 )
 
-pub no_macro_is : (z : Text) → IsNoMacro z → word z ≡ Err (fault.BadCharacter 0)
+pub no_macro_is : (z : Text) → IsNoMacro z → word_at z ≡ Err (defect.BadCharacter 0)
 no_macro_is z h =
     let mark : (slice_index z 0 == 64) ≡ true = eq-eqb (slice_index z 0) 64 h.1 in
     word_is z 0 h.0 (at_word z h.0 h.1 h.2) ∙ rw (h.3, mark) refl

@@ -8,8 +8,8 @@ use Rattle.jt_lexer.specs.declared.error.LexError.{LexError}
 use Rattle.jt_lexer.specs.declared.error.LexError.TheVariants as error
 use Rattle.jt_lexer.specs.declared.piece.Shape.{Shape}
 use Rattle.jt_lexer.specs.declared.piece.Shape.TheVariants as shape
-use Rattle.jt_lexer.specs.declared.piece.Fault.{Fault}
-use Rattle.jt_lexer.specs.declared.piece.Fault.TheVariants as fault
+use Rattle.jt_lexer.specs.declared.piece.Defect.{Defect}
+use Rattle.jt_lexer.specs.declared.piece.Defect.TheVariants as defect
 use Rattle.jt_lexer.specs.Pieces.{Text, Piece, piece}
 
 -- the byte that an escape's last byte stands for
@@ -26,12 +26,12 @@ abbrev pub token : TokenKind → ℕ → Token
 token k at = record { kind = k; at = at }
 
 -- what a piece is as a token: a blank is none
-abbrev pub kind_of : Shape → Text → Option TokenKind
-kind_of shape.Blank w = None
-kind_of (shape.Number n) w = Some (kind.Number n)
-kind_of (shape.Name start) w = Some (kind.Name (drop start w))
-kind_of shape.Text w = Some (kind.Text (unescaped false (drop 1 (take (length w - 1) w))))
-kind_of (shape.Sign s) w = Some (kind.Sign s)
+abbrev pub token_kind : Shape → Text → Option TokenKind
+token_kind shape.Blank w = None
+token_kind (shape.Number n) w = Some (kind.Number n)
+token_kind (shape.Name start) w = Some (kind.Name (drop start w))
+token_kind shape.Text w = Some (kind.Text (unescaped false (drop 1 (take (length w - 1) w))))
+token_kind (shape.Sign s) w = Some (kind.Sign s)
 
 abbrev pub tokens_of : Option TokenKind → ℕ → List Token
 tokens_of None at = []
@@ -42,21 +42,21 @@ abbrev pub Pushes : List Token → List Token → Result Unit LexError → List 
 Pushes ts old (Ok u) new = new ≡ old ++ ts
 Pushes ts old (Err e) new = e ≡ error.OutOfMemory
 
-abbrev pub refusal : Fault → ℕ → LexError
-refusal (fault.BadCharacter n) at = error.BadCharacter (at + n)
-refusal fault.OpenString at = error.OpenString at
-refusal fault.NumberTooLarge at = error.NumberTooLarge at
+abbrev pub lex_error : Defect → ℕ → LexError
+lex_error (defect.BadCharacter n) at = error.BadCharacter (at + n)
+lex_error defect.OpenString at = error.OpenString at
+lex_error defect.NumberTooLarge at = error.NumberTooLarge at
 
 abbrev pub Lexed : Type 0
 Lexed = Result (List Token) LexError
 
-abbrev pub before : List Token → Lexed → Lexed
-before ts (Ok us) = Ok (ts ++ us)
-before ts (Err e) = Err e
+abbrev pub put_before : List Token → Lexed → Lexed
+put_before ts (Ok us) = Ok (ts ++ us)
+put_before ts (Err e) = Err e
 
 abbrev pub followed : Piece → ℕ → Text → (ℕ → Lexed) → Lexed
-followed (Err f) at z rest = Err (refusal f at)
-followed (Ok p) at z rest = before (tokens_of (kind_of p.0 (take p.1 z)) at) (rest p.1)
+followed (Err f) at z rest = Err (lex_error f at)
+followed (Ok p) at z rest = put_before (tokens_of (token_kind p.0 (take p.1 z)) at) (rest p.1)
 
 -- The tokens of a text that begins at `at`. The first number counts the bytes that are left of a piece.
 abbrev pub lex_from : ℕ → ℕ → Text → Lexed
@@ -68,7 +68,7 @@ unfoldable pub lex : Text → Lexed
 lex = lex_from 0 0
 
 -- a call gives what the definition says, but where memory fails
-abbrev pub Gives : {A B : Type 0} → (B → A) → Result A LexError → Result B LexError → Type 0
-Gives view o (Ok b) = o ≡ Ok (view b)
-Gives view o (Err error.OutOfMemory) = Unit {0}
-Gives view o (Err e) = o ≡ Err e
+abbrev pub LexesTo : {A B : Type 0} → (B → A) → Result A LexError → Result B LexError → Type 0
+LexesTo view o (Ok b) = o ≡ Ok (view b)
+LexesTo view o (Err error.OutOfMemory) = Unit {0}
+LexesTo view o (Err e) = o ≡ Err e

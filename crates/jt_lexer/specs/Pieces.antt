@@ -8,15 +8,15 @@ use Rattle.jt_syntax.specs.declared.token.Sign.{Sign}
 use Rattle.jt_syntax.specs.declared.token.Sign.TheVariants as sign
 use Rattle.jt_lexer.specs.declared.piece.Shape.{Shape}
 use Rattle.jt_lexer.specs.declared.piece.Shape.TheVariants as shape
-use Rattle.jt_lexer.specs.declared.piece.Fault.{Fault}
-use Rattle.jt_lexer.specs.declared.piece.Fault.TheVariants as fault
+use Rattle.jt_lexer.specs.declared.piece.Defect.{Defect}
+use Rattle.jt_lexer.specs.declared.piece.Defect.TheVariants as defect
 use Rattle.jt_lexer.specs.Words.{words, signs, of_threads, of_base}
 
 abbrev pub Text : Type 0
 Text = List ℕ
 
 abbrev pub Piece : Type 0
-Piece = Result (Shape × ℕ) Fault
+Piece = Result (Shape × ℕ) Defect
 
 -- ---- blanks and comments
 
@@ -29,11 +29,11 @@ abbrev pub line_len : Text → ℕ
 line_len [] = 0
 line_len (b ∷ z) = if b == 10 then 0 else suc (line_len z)
 
-abbrev pub opens : ℕ → ℕ → Bool
-opens b next = b == 35 && next == 61
+abbrev pub opens_comment : ℕ → ℕ → Bool
+opens_comment b next = b == 35 && next == 61
 
-abbrev pub closes : ℕ → ℕ → Bool
-closes b next = b == 61 && next == 35
+abbrev pub closes_comment : ℕ → ℕ → Bool
+closes_comment b next = b == 61 && next == 35
 
 -- The length up to and with the `=#` that closes, where `outer` more comments are open round it and `at` bytes
 -- came before. The marks are taken from left to right and share no byte: `in_mark` where a mark's first byte came before.
@@ -41,16 +41,16 @@ abbrev pub comment_end : ℕ → Bool → ℕ → Text → Option ℕ
 comment_end outer in_mark at [] = None
 comment_end outer true at (b ∷ z) = comment_end outer false (at + 1) z
 comment_end outer false at (b ∷ z) =
-    if opens b (slice_index z 0) then comment_end (outer + 1) true (at + 1) z
-    else (if closes b (slice_index z 0) then (if outer == 0 then Some (at + 2) else comment_end (outer - 1) true (at + 1) z)
+    if opens_comment b (slice_index z 0) then comment_end (outer + 1) true (at + 1) z
+    else (if closes_comment b (slice_index z 0) then (if outer == 0 then Some (at + 2) else comment_end (outer - 1) true (at + 1) z)
     else comment_end outer false (at + 1) z)
 
-abbrev pub closed : Option ℕ → Piece
-closed None = Err fault.OpenString
-closed (Some n) = Ok (shape.Blank, n)
+abbrev pub comment_piece : Option ℕ → Piece
+comment_piece None = Err defect.OpenString
+comment_piece (Some n) = Ok (shape.Blank, n)
 
 unfoldable pub comment : Text → Piece
-comment z = if slice_index z 1 == 61 then closed (comment_end 0 false 2 (drop 2 z)) else Ok (shape.Blank, line_len z)
+comment z = if slice_index z 1 == 61 then comment_piece (comment_end 0 false 2 (drop 2 z)) else Ok (shape.Blank, line_len z)
 
 -- ---- numbers
 
@@ -62,7 +62,7 @@ with_digit value b = value * 10 + (b - 48)
 abbrev pub number_from : ℕ → ℕ → Text → Piece
 number_from value at [] = Ok (shape.Number value, at)
 number_from value at (b ∷ z) =
-    if is_ascii_digit b then (if nat_lt (with_digit value b) (2 ^ 63) then number_from (with_digit value b) (at + 1) z else Err fault.NumberTooLarge)
+    if is_ascii_digit b then (if nat_lt (with_digit value b) (2 ^ 63) then number_from (with_digit value b) (at + 1) z else Err defect.NumberTooLarge)
     else (if b == 95 && is_ascii_digit (slice_index z 0) then number_from value (at + 1) z else Ok (shape.Number value, at))
 
 -- ---- strings
@@ -73,12 +73,12 @@ is_escape b = b == 110 || b == 116 || b == 92 || b == 34 || b == 36
 -- The string that goes on with this text, where so many bytes came before, the last of them an escaping backslash
 -- where `escaped`.
 abbrev pub string_from : Bool → ℕ → Text → Piece
-string_from true at [] = Err (fault.BadCharacter (at - 1))
-string_from false at [] = Err fault.OpenString
-string_from true at (b ∷ z) = if is_escape b then string_from false (at + 1) z else Err (fault.BadCharacter (at - 1))
+string_from true at [] = Err (defect.BadCharacter (at - 1))
+string_from false at [] = Err defect.OpenString
+string_from true at (b ∷ z) = if is_escape b then string_from false (at + 1) z else Err (defect.BadCharacter (at - 1))
 string_from false at (b ∷ z) =
     if b == 34 then Ok (shape.Text, at + 1)
-    else (if b == 36 then Err (fault.BadCharacter at)
+    else (if b == 36 then Err (defect.BadCharacter at)
     else string_from (b == 92) (at + 1) z)
 
 -- ---- words
@@ -86,13 +86,13 @@ string_from false at (b ∷ z) =
 abbrev pub begins_word : ℕ → Bool
 begins_word b = is_ascii_alphabetic b || b == 95 || b == 64
 
-abbrev pub goes_on : ℕ → Bool
-goes_on b = is_ascii_alphanumeric b || b == 95
+abbrev pub continues_word : ℕ → Bool
+continues_word b = is_ascii_alphanumeric b || b == 95
 
 -- The length of a word's bytes: letters, digits, `_`, and `!` where no `=` follows.
 abbrev pub word_len : Text → ℕ
 word_len [] = 0
-word_len (b ∷ z) = if goes_on b || (b == 33 && not (slice_index z 0 == 61)) then suc (word_len z) else 0
+word_len (b ∷ z) = if continues_word b || (b == 33 && not (slice_index z 0 == 61)) then suc (word_len z) else 0
 
 -- the length of a word, with the `@` of a macro word
 unfoldable pub whole_len : Text → ℕ
@@ -139,22 +139,22 @@ unfoldable pub reserved : Text → Option Sign
 reserved = lookup words
 
 -- a word without its prefix, in a text where it ends before `end` and begins at `start`
-abbrev pub named : Option Sign → Bool → ℕ → ℕ → Text → Piece
-named (Some s) is_macro start end z = if is_macro && slice_index z end == 40 then Err (fault.BadCharacter end) else Ok (shape.Sign s, end)
-named None is_macro start end z = if is_macro then Err (fault.BadCharacter start) else Ok (shape.Name start, end)
+abbrev pub word_piece : Option Sign → Bool → ℕ → ℕ → Text → Piece
+word_piece (Some s) is_macro start end z = if is_macro && slice_index z end == 40 then Err (defect.BadCharacter end) else Ok (shape.Sign s, end)
+word_piece None is_macro start end z = if is_macro then Err (defect.BadCharacter start) else Ok (shape.Name start, end)
 
-unfoldable pub word : Text → Piece
-word z =
+unfoldable pub word_at : Text → Piece
+word_at z =
     if is_base_threads z then Ok (shape.Sign sign.BaseThreads, 12) else
     (let start = prefix_len z in
     let bare = drop start z in
     let n = whole_len bare in
-    named (reserved (take n bare)) (slice_index bare 0 == 64) start (start + n) z)
+    word_piece (reserved (take n bare)) (slice_index bare 0 == 64) start (start + n) z)
 
 -- ---- signs
 
 abbrev pub first_sign : List (Text × Sign) → Text → Piece
-first_sign [] z = Err (fault.BadCharacter 0)
+first_sign [] z = Err (defect.BadCharacter 0)
 first_sign (s ∷ ss) z = if starts_with nat_eq z s.0 then Ok (shape.Sign s.1, length s.0) else first_sign ss z
 
 -- no sign has an empty spelling
@@ -174,14 +174,14 @@ piece z =
     else (if b == 35 then comment z
     else (if is_ascii_digit b then number_from 0 0 z
     else (if b == 34 then string_from false 1 (drop 1 z)
-    else (if begins_word b then word z
+    else (if begins_word b then word_at z
     else sign_at z))))
 
--- a fault's place lies within so many bytes
-abbrev pub FaultsWithin : ℕ → Fault → Type 0
-FaultsWithin n (fault.BadCharacter at) = at ≤ n
-FaultsWithin n fault.OpenString = Unit {0}
-FaultsWithin n fault.NumberTooLarge = Unit {0}
+-- a defect's place lies within so many bytes
+abbrev pub DefectsWithin : ℕ → Defect → Type 0
+DefectsWithin n (defect.BadCharacter at) = at ≤ n
+DefectsWithin n defect.OpenString = Unit {0}
+DefectsWithin n defect.NumberTooLarge = Unit {0}
 
 -- what is cut off a piece of this length lies within it
 abbrev pub IsShapedWithin : Shape → ℕ → Type 0

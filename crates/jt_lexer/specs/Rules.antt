@@ -15,8 +15,8 @@ use Rattle.jt_lexer.specs.Pieces.{Text, is_blank, is_escape, begins_word, reserv
 use Rattle.jt_lexer.specs.Lexer.{escape}
 
 -- the places before n pass the test, and n is the first that doesn't
-abbrev pub IsRun : (ℕ → Bool) → ℕ → Type 0
-IsRun test n = ((k : ℕ) → k < n → test k ≡ true) × (test n ≡ false)
+abbrev pub IsSpan : (ℕ → Bool) → ℕ → Type 0
+IsSpan test n = ((k : ℕ) → k < n → test k ≡ true) × (test n ≡ false)
 
 -- ---- comments
 
@@ -28,23 +28,23 @@ in_line (b ∷ z) (suc k) = in_line z k
 
 -- `#`, and all up to the newline
 abbrev pub IsLineComment : Text → ℕ → Type 0
-IsLineComment z n = (slice_index z 0 ≡ 35) × (slice_index z 1 ≢ 61) × IsRun (in_line z) n
+IsLineComment z n = (slice_index z 0 ≡ 35) × (slice_index z 1 ≢ 61) × IsSpan (in_line z) n
 
 -- what stands in a comment between `#=` and `=#`: marks that open and close inner comments, and other bytes
-pub data Mark : Type 0 where
-  opening : Mark
-  closing : Mark
-  other : ℕ → Mark
+pub data CommentMark : Type 0 where
+  opening : CommentMark
+  closing : CommentMark
+  other : ℕ → CommentMark
 
 -- A text from left to right, each mark wherever its two bytes stand, so that no two marks share a byte. `rest` is left.
-abbrev pub Reads : List Mark → Text → Text → Type 0
-Reads [] z rest = z ≡ rest
-Reads (opening ∷ ms) z rest = (y : Text) × (z ≡ 35 ∷ 61 ∷ y) × Reads ms y rest
-Reads (closing ∷ ms) z rest = (y : Text) × (z ≡ 61 ∷ 35 ∷ y) × Reads ms y rest
-Reads (other b ∷ ms) z rest = (y : Text) × (z ≡ b ∷ y) × ((b == 35 && slice_index y 0 == 61) ≡ false) × ((b == 61 && slice_index y 0 == 35) ≡ false) × Reads ms y rest
+abbrev pub ReadsMarks : List CommentMark → Text → Text → Type 0
+ReadsMarks [] z rest = z ≡ rest
+ReadsMarks (opening ∷ ms) z rest = (y : Text) × (z ≡ 35 ∷ 61 ∷ y) × ReadsMarks ms y rest
+ReadsMarks (closing ∷ ms) z rest = (y : Text) × (z ≡ 61 ∷ 35 ∷ y) × ReadsMarks ms y rest
+ReadsMarks (other b ∷ ms) z rest = (y : Text) × (z ≡ b ∷ y) × ((b == 35 && slice_index y 0 == 61) ≡ false) × ((b == 61 && slice_index y 0 == 35) ≡ false) × ReadsMarks ms y rest
 
 -- how many comments are open behind these marks, where none closes more than is open
-abbrev pub depth : ℕ → List Mark → Option ℕ
+abbrev pub depth : ℕ → List CommentMark → Option ℕ
 depth n [] = Some n
 depth n (opening ∷ ms) = depth (suc n) ms
 depth zero (closing ∷ ms) = None
@@ -52,7 +52,7 @@ depth (suc n) (closing ∷ ms) = depth n ms
 depth n (other b ∷ ms) = depth n ms
 
 -- how many bytes these marks and bytes take
-abbrev pub size : List Mark → ℕ
+abbrev pub size : List CommentMark → ℕ
 size [] = 0
 size (opening ∷ ms) = 2 + size ms
 size (closing ∷ ms) = 2 + size ms
@@ -60,11 +60,11 @@ size (other b ∷ ms) = 1 + size ms
 
 -- `#=`, marks that close what they open, and `=#`
 abbrev pub IsNestedComment : Text → ℕ → Type 0
-IsNestedComment z n = (inside : Text) × (rest : Text) × (ms : List Mark) × (z ≡ 35 ∷ 61 ∷ inside) × Reads ms inside (61 ∷ 35 ∷ rest) × (depth 0 ms ≡ Some 0) × (n ≡ size ms + 4)
+IsNestedComment z n = (inside : Text) × (rest : Text) × (ms : List CommentMark) × (z ≡ 35 ∷ 61 ∷ inside) × ReadsMarks ms inside (61 ∷ 35 ∷ rest) × (depth 0 ms ≡ Some 0) × (n ≡ size ms + 4)
 
 -- `#=`, and marks up to the text's end that don't close it
 abbrev pub IsOpenComment : Text → Type 0
-IsOpenComment z = (inside : Text) × (ms : List Mark) × (n : ℕ) × (z ≡ 35 ∷ 61 ∷ inside) × Reads ms inside [] × (depth 0 ms ≡ Some n)
+IsOpenComment z = (inside : Text) × (ms : List CommentMark) × (n : ℕ) × (z ≡ 35 ∷ 61 ∷ inside) × ReadsMarks ms inside [] × (depth 0 ms ≡ Some n)
 
 -- a blank or a comment, which is no token
 abbrev pub IsSkipped : Text → ℕ → Type 0
@@ -84,7 +84,7 @@ value v (b ∷ w) = value (if b == 95 then v else v * 10 + (b - 48)) w
 
 -- n bytes that stand for the value v, however large
 abbrev pub IsNumeral : Text → ℕ → ℕ → Type 0
-IsNumeral z v n = (0 < n) × IsRun (in_number z) n × (v ≡ value 0 (take n z))
+IsNumeral z v n = (0 < n) × IsSpan (in_number z) n × (v ≡ value 0 (take n z))
 
 -- a number is below 2^63
 abbrev pub IsNumber : Text → ℕ → ℕ → Type 0
@@ -101,10 +101,10 @@ pub data Part : Type 0 where
   escaped : ℕ → Part
 
 -- the bytes that these parts are written as
-abbrev pub written : List Part → Text
-written [] = []
-written (plain b ∷ ps) = b ∷ written ps
-written (escaped b ∷ ps) = 92 ∷ b ∷ written ps
+abbrev pub part_bytes : List Part → Text
+part_bytes [] = []
+part_bytes (plain b ∷ ps) = b ∷ part_bytes ps
+part_bytes (escaped b ∷ ps) = 92 ∷ b ∷ part_bytes ps
 
 -- the bytes that these parts stand for
 abbrev pub meaning : List Part → List ℕ
@@ -120,11 +120,11 @@ AreParts (escaped b ∷ ps) = (is_escape b ≡ true) × AreParts ps
 
 -- a quote, parts, and a quote
 abbrev pub IsString : Text → List ℕ → ℕ → Type 0
-IsString z bs n = (ps : List Part) × (rest : Text) × (z ≡ 34 ∷ written ps ++ 34 ∷ rest) × AreParts ps × (n ≡ length (written ps) + 2) × (bs ≡ meaning ps)
+IsString z bs n = (ps : List Part) × (rest : Text) × (z ≡ 34 ∷ part_bytes ps ++ 34 ∷ rest) × AreParts ps × (n ≡ length (part_bytes ps) + 2) × (bs ≡ meaning ps)
 
 -- a quote, and parts up to the text's end
 abbrev pub IsOpenString : Text → Type 0
-IsOpenString z = (ps : List Part) × (z ≡ 34 ∷ written ps) × AreParts ps
+IsOpenString z = (ps : List Part) × (z ≡ 34 ∷ part_bytes ps) × AreParts ps
 
 -- a `$`, or a backslash that begins no escape
 abbrev pub IsNoPart : Text → Type 0
@@ -132,7 +132,7 @@ IsNoPart z = (slice_index z 0 ≡ 36) ⊎ ((slice_index z 0 ≡ 92) × (is_escap
 
 -- the first byte of a string that may not stand there has the place n
 abbrev pub IsBadString : Text → ℕ → Type 0
-IsBadString z n = (ps : List Part) × (rest : Text) × (z ≡ 34 ∷ written ps ++ rest) × AreParts ps × IsNoPart rest × (n ≡ length (written ps) + 1)
+IsBadString z n = (ps : List Part) × (rest : Text) × (z ≡ 34 ∷ part_bytes ps ++ rest) × AreParts ps × IsNoPart rest × (n ≡ length (part_bytes ps) + 1)
 
 -- ---- words
 
@@ -147,7 +147,7 @@ in_whole z (suc k) = in_word z (suc k)
 
 -- this prefix stands at the front, and the whole word behind it is one of these
 abbrev pub IsPrefixed : Text → List Text → Text → Type 0
-IsPrefixed prefix ws z = (starts_with nat_eq z prefix ≡ true) × (n : ℕ) × IsRun (in_whole (drop (length prefix) z)) n × Contains ws (take n (drop (length prefix) z))
+IsPrefixed prefix ws z = (starts_with nat_eq z prefix ≡ true) × (n : ℕ) × IsSpan (in_whole (drop (length prefix) z)) n × Contains ws (take n (drop (length prefix) z))
 
 -- the word at the front has a prefix of this length
 abbrev pub HasPrefix : Text → ℕ → Type 0
@@ -163,7 +163,7 @@ IsBaseThreads z = (starts_with nat_eq z (codes "Base.Threads") ≡ true) × (in_
 
 -- a word of m bytes, read whole, which begins at `start`
 abbrev pub IsWord : Text → ℕ → ℕ → Type 0
-IsWord z start m = (begins_word (slice_index z 0) ≡ true) × (IsBaseThreads z → ⊥) × BeginsAt z start × IsRun (in_whole (drop start z)) m
+IsWord z start m = (begins_word (slice_index z 0) ≡ true) × (IsBaseThreads z → ⊥) × BeginsAt z start × IsSpan (in_whole (drop start z)) m
 
 -- a word that is no keyword and has no rule of its own
 abbrev pub IsName : Text → List ℕ → ℕ → Type 0
@@ -179,7 +179,7 @@ IsMacroCall z n = (start : ℕ) × (m : ℕ) × (s : Sign) × IsWord z start m �
 
 -- an `@` that begins no macro word
 abbrev pub IsNoMacro : Text → Type 0
-IsNoMacro z = (m : ℕ) × (slice_index z 0 ≡ 64) × IsRun (in_whole z) m × (reserved (take m z) ≡ None)
+IsNoMacro z = (m : ℕ) × (slice_index z 0 ≡ 64) × IsSpan (in_whole z) m × (reserved (take m z) ≡ None)
 
 -- ---- signs
 

@@ -13,7 +13,7 @@ use Rattle.jt_syntax.specs.declared.token.Sign.TheVariants as sign
 use Rattle.jt_syntax.specs.declared.token.Token.{Token}
 use Rattle.jt_syntax.specs.declared.token.TokenKind.{TokenKind}
 use Rattle.jt_syntax.specs.declared.token.TokenKind.TheVariants as kind
-use Rattle.jt_lexer.specs.Pieces.{Text, goes_on, reserved}
+use Rattle.jt_lexer.specs.Pieces.{Text, continues_word, reserved}
 use Rattle.jt_lexer.specs.Lexer.{token}
 
 -- ---- the spelling of a token
@@ -121,12 +121,12 @@ spelled (k ∷ ks) = spelling k ++ 32 ∷ spelled ks
 abbrev pub is_first : ℕ → Bool
 is_first b = is_ascii_alphabetic b || b == 95
 
-abbrev pub is_inner : ℕ → Bool
-is_inner b = goes_on b || b == 33
+abbrev pub is_name_byte : ℕ → Bool
+is_name_byte b = continues_word b || b == 33
 
 abbrev pub all_in_word : Text → Bool
 all_in_word [] = true
-all_in_word (b ∷ w) = is_inner b && all_in_word w
+all_in_word (b ∷ w) = is_name_byte b && all_in_word w
 
 -- a letter or `_`, then letters, digits, `_` and `!`
 abbrev pub is_word : Text → Bool
@@ -155,15 +155,15 @@ abbrev pub IsTextual : TokenKind → Type 0
 IsTextual (kind.Text bs) = IsUtf8 bs
 IsTextual k = Unit {0}
 
-abbrev pub Each : (TokenKind → Type 0) → List TokenKind → Type 0
-Each P [] = Unit {0}
-Each P (k ∷ ks) = P k × Each P ks
+abbrev pub EachKind : (TokenKind → Type 0) → List TokenKind → Type 0
+EachKind P [] = Unit {0}
+EachKind P (k ∷ ks) = P k × EachKind P ks
 
 abbrev pub ArePrintable : List TokenKind → Type 0
-ArePrintable = Each IsPrintable
+ArePrintable = EachKind IsPrintable
 
 abbrev pub AreTextual : List TokenKind → Type 0
-AreTextual = Each IsTextual
+AreTextual = EachKind IsTextual
 
 abbrev pub kinds : List Token → List TokenKind
 kinds = map (λ t. t.kind)
@@ -174,6 +174,6 @@ abbrev pub stop : TokenKind
 stop = kind.Sign sign.Stop
 
 -- the tokens, each at the place of its spelling in a text that begins at `at`, and the end token
-abbrev pub placed : ℕ → List TokenKind → List Token
-placed at [] = token stop at ∷ []
-placed at (k ∷ ks) = token k at ∷ placed (at + length (spelling k) + 1) ks
+abbrev pub placed_from : ℕ → List TokenKind → List Token
+placed_from at [] = token stop at ∷ []
+placed_from at (k ∷ ks) = token k at ∷ placed_from (at + length (spelling k) + 1) ks

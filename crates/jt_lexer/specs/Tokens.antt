@@ -25,9 +25,9 @@ abbrev pub RefusesAt : Text → LexError → Type 0
 RefusesAt text e = (ps : List (Option TokenKind × ℕ)) × (us : List Token) × (end : ℕ) × (rest : Text) × (0 < length rest) × IsRefusal rest end e × Begins ps 0 text us end rest
 
 -- want of memory has no cause in the text
-abbrev pub Refuses : Text → LexError → Type 0
-Refuses text error.OutOfMemory = Unit {0}
-Refuses text e = RefusesAt text e
+abbrev pub RefusesText : Text → LexError → Type 0
+RefusesText text error.OutOfMemory = Unit {0}
+RefusesText text e = RefusesAt text e
 
 abbrev pub IsNoStop : TokenKind → Type 0
 IsNoStop (kind.Sign sign.Stop) = ⊥

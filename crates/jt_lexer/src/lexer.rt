@@ -1,12 +1,13 @@
 //! From a text to its tokens.
 
 ghost use Rattle.std.specs.Prelude.{◌≡◌, ◌<◌, ◌≤◌, ◌+◌, ◌^◌, ◌++◌, length, drop, IfOk, IfErr, OnOk};
+ghost use Rattle.jt_base.specs.Limits.{most_script};
 ghost use Rattle.jt_lexer.specs.Pieces as pieces;
 ghost use Rattle.jt_lexer.specs.Lexer as spec;
-ghost use Rattle.jt_lexer.specs.Tokens.{IsTokensOf, IsWhole, Refuses};
+ghost use Rattle.jt_lexer.specs.Tokens.{IsTokensOf, IsWhole, RefusesText};
 
 use crate::error::LexError;
-use crate::piece::{Fault, Shape, piece};
+use crate::piece::{Defect, Shape, piece};
 use crate::quoted::unescaped;
 use jt_syntax::{Sign, Token, TokenKind};
 use sqlite_items::Items;
@@ -20,21 +21,21 @@ fn copied(alloc: Global, bytes: &[u8]) -> Result<Items<u8>, AllocError>
     Ok(Items::from_vec(copy))
 }
 
-fn refusal(fault: Fault, at: u32) -> LexError
-    requires fault { pieces.FaultsWithin 1048576 fault }
-    requires place { at ≤ 1048576 }
-    ensures { result ≡ spec.refusal fault at }
+fn refusal(defect: Defect, at: u32) -> LexError
+    requires defect { pieces.DefectsWithin most_script defect }
+    requires place { at ≤ most_script }
+    ensures { result ≡ spec.lex_error defect at }
 {
-    match fault {
-        Fault::BadCharacter(from) => LexError::BadCharacter(at + from as u32),
-        Fault::OpenString => LexError::OpenString(at),
-        Fault::NumberTooLarge => LexError::NumberTooLarge(at),
+    match defect {
+        Defect::BadCharacter(from) => LexError::BadCharacter(at + from as u32),
+        Defect::OpenString => LexError::OpenString(at),
+        Defect::NumberTooLarge => LexError::NumberTooLarge(at),
     }
 }
 
 fn kind_of(alloc: Global, shape: Shape, word: &[u8]) -> Result<Option<TokenKind>, AllocError>
     requires { pieces.IsShapedWithin shape (length word.now) }
-    ensures { IfOk result (λ k. k ≡ spec.kind_of shape word.now) }
+    ensures { IfOk result (λ k. k ≡ spec.token_kind shape word.now) }
 {
     match shape {
         Shape::Blank => Ok(None),
@@ -53,7 +54,7 @@ fn push_piece(
     word: &[u8],
 ) -> Result<(), LexError>
     requires { pieces.IsShapedWithin shape (length word.now) }
-    ensures { spec.Pushes (spec.tokens_of (spec.kind_of shape word.now) at) tokens.old.items result tokens.new.items }
+    ensures { spec.Pushes (spec.tokens_of (spec.token_kind shape word.now) at) tokens.old.items result tokens.new.items }
 {
     if let Some(kind) = kind_of(alloc, shape, word)? {
         tokens.push(Token { kind, at })?;
@@ -61,7 +62,7 @@ fn push_piece(
     Ok(())
 }
 
-/// The tokens of a script's text of at most 1,048,576 bytes: at each place the longest piece is
+/// The tokens of a script's text of at most `MOST_SCRIPT` bytes: at each place the longest piece is
 /// taken, blanks and comments are no tokens, and the last token, `Stop`, stands at the text's
 /// length.
 ///
@@ -69,11 +70,11 @@ fn push_piece(
 ///
 /// The first refusal from the left, with its place, or want of memory.
 pub fn lex(alloc: Global, text: &str) -> Result<Vec<Token>, LexError>
-    requires { length text.now ≤ 1048576 }
-    ensures value { spec.Gives (λ tokens. tokens.items) (spec.lex text.now) result }
+    requires { length text.now ≤ most_script }
+    ensures value { spec.LexesTo (λ tokens. tokens.items) (spec.lex text.now) result }
     ensures tokens { IfOk result (λ tokens. IsTokensOf text.now tokens.items) }
     ensures whole { IfOk result (λ tokens. IsWhole text.now tokens.items) }
-    ensures refused { IfErr result (Refuses text.now) }
+    ensures refused { IfErr result (RefusesText text.now) }
 {
     let bytes = text.as_bytes();
     let mut tokens = Vec::new(alloc);
@@ -81,7 +82,7 @@ pub fn lex(alloc: Global, text: &str) -> Result<Vec<Token>, LexError>
     while at < bytes.len() {
         let rest = &bytes[at..];
         match piece(rest) {
-            Err(fault) => return Err(refusal(fault, at as u32)),
+            Err(defect) => return Err(refusal(defect, at as u32)),
             Ok((shape, length)) => {
                 push_piece(alloc, &mut tokens, shape, at as u32, &rest[..length])?;
                 at += length;

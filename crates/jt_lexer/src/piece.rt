@@ -11,7 +11,7 @@ use jt_syntax::Sign;
 
 /// What a piece of a text is.
 #[derive(Clone, Copy, Debug)]
-pub enum Shape {
+pub(crate) enum Shape {
     /// A blank or a comment, which is no token.
     Blank,
     /// A number of this value.
@@ -25,7 +25,7 @@ pub enum Shape {
 
 /// Why no piece stands at the front of a text.
 #[derive(Clone, Copy, Debug)]
-pub enum Fault {
+pub(crate) enum Defect {
     /// The character at this place, counted from the front, is the first bad one.
     BadCharacter(usize),
     OpenString,
@@ -33,10 +33,10 @@ pub enum Fault {
 }
 
 /// A piece and its length in bytes.
-pub type Piece = (Shape, usize);
+pub(crate) type Piece = (Shape, usize);
 
 /// The byte at a place, or 0 past the end.
-pub fn byte(z: &[u8], at: usize) -> u8
+pub(crate) fn byte(z: &[u8], at: usize) -> u8
     ensures value { result ≡ slice_index z.now at }
     ensures within { result ≢ 0 → at < length z.now }
 {
@@ -64,14 +64,14 @@ fn line_len(z: &[u8]) -> usize
 
 /// These bytes open a comment.
 fn opens(b: u8, next: u8) -> bool
-    ensures { result ≡ spec.opens b next }
+    ensures { result ≡ spec.opens_comment b next }
 {
     b == b'#' && next == b'='
 }
 
 /// These bytes close a comment.
 fn closes(b: u8, next: u8) -> bool
-    ensures { result ≡ spec.closes b next }
+    ensures { result ≡ spec.closes_comment b next }
 {
     b == b'=' && next == b'#'
 }
@@ -103,17 +103,17 @@ fn comment_end(z: &[u8]) -> Option<usize>
 }
 
 #[tactic(auto, unfolding(crate::specs::Pieces::comment))]
-fn comment(z: &[u8]) -> Result<Piece, Fault>
+fn comment(z: &[u8]) -> Result<Piece, Defect>
     requires short { length z.now < 2 ^ 62 }
     requires begins { slice_index z.now 0 ≡ 35 }
     ensures value { result ≡ spec.comment z.now }
     ensures within { IfOk result (λ p. (1 ≤ p.1) × (p.1 ≤ length z.now)) }
-    ensures refused { IfErr result (spec.FaultsWithin (length z.now)) }
+    ensures refused { IfErr result (spec.DefectsWithin (length z.now)) }
     ensures shaped { IfOk result (λ p. spec.IsShapedWithin p.0 p.1) }
 {
     if byte(z, 1) == b'=' {
         match comment_end(&z[2..]) {
-            None => Err(Fault::OpenString),
+            None => Err(Defect::OpenString),
             Some(end) => Ok((Shape::Blank, end)),
         }
     } else {
@@ -121,11 +121,11 @@ fn comment(z: &[u8]) -> Result<Piece, Fault>
     }
 }
 
-fn first_sign(mut table: &[(&[u8], Sign)], z: &[u8]) -> Result<Piece, Fault>
+fn first_sign(mut table: &[(&[u8], Sign)], z: &[u8]) -> Result<Piece, Defect>
     requires { spec.all_spelled (map (λ s. (s.0.now, s.1)) table.now) ≡ true }
     ensures value { result ≡ spec.first_sign (map (λ s. (s.0.now, s.1)) table.entry.now) z.now }
     ensures within { IfOk result (λ p. (1 ≤ p.1) × (p.1 ≤ length z.now)) }
-    ensures refused { IfErr result (spec.FaultsWithin (length z.now)) }
+    ensures refused { IfErr result (spec.DefectsWithin (length z.now)) }
     ensures shaped { IfOk result (λ p. spec.IsShapedWithin p.0 p.1) }
 {
     while let [entry, rest @ ..] = table {
@@ -134,14 +134,14 @@ fn first_sign(mut table: &[(&[u8], Sign)], z: &[u8]) -> Result<Piece, Fault>
         }
         table = rest;
     }
-    Err(Fault::BadCharacter(0))
+    Err(Defect::BadCharacter(0))
 }
 
 #[tactic(auto, unfolding(crate::specs::Pieces::sign_at))]
-fn sign_at(z: &[u8]) -> Result<Piece, Fault>
+fn sign_at(z: &[u8]) -> Result<Piece, Defect>
     ensures value { result ≡ spec.sign_at z.now }
     ensures within { IfOk result (λ p. (1 ≤ p.1) × (p.1 ≤ length z.now)) }
-    ensures refused { IfErr result (spec.FaultsWithin (length z.now)) }
+    ensures refused { IfErr result (spec.DefectsWithin (length z.now)) }
     ensures shaped { IfOk result (λ p. spec.IsShapedWithin p.0 p.1) }
 {
     first_sign(&SIGNS, z)
@@ -155,12 +155,12 @@ fn begins_word(b: u8) -> bool
 
 /// The piece at the front of a text that isn't empty, the longest that there is.
 #[tactic(auto, unfolding(crate::specs::Pieces::piece))]
-pub fn piece(z: &[u8]) -> Result<Piece, Fault>
+pub(crate) fn piece(z: &[u8]) -> Result<Piece, Defect>
     requires short { length z.now < 2 ^ 62 }
     requires more { 0 < length z.now }
     ensures value { result ≡ spec.piece z.now }
     ensures within { IfOk result (λ p. (1 ≤ p.1) × (p.1 ≤ length z.now)) }
-    ensures refused { IfErr result (spec.FaultsWithin (length z.now)) }
+    ensures refused { IfErr result (spec.DefectsWithin (length z.now)) }
     ensures shaped { IfOk result (λ p. spec.IsShapedWithin p.0 p.1) }
 {
     let b = byte(z, 0);

@@ -9,7 +9,7 @@ use jt_syntax::ComparisonOperator::{Equal, Greater, GreaterEqual, Less, LessEqua
 use jt_syntax::{BinaryOperator, Connective, Sign};
 
 /// The words that are no names.
-pub const WORDS: [(&[u8], Sign); 41] = [
+pub(crate) const WORDS: [(&[u8], Sign); 41] = [
     (b"begin", Sign::Begin),
     (b"break", Sign::Break),
     (b"const", Sign::Const),
@@ -54,7 +54,7 @@ pub const WORDS: [(&[u8], Sign); 41] = [
 ];
 
 /// The signs, each before those that it begins with.
-pub const SIGNS: [(&[u8], Sign); 43] = [
+pub(crate) const SIGNS: [(&[u8], Sign); 43] = [
     (b">>>", Sign::Binary(Arithmetic(ShiftRightZero))),
     (b">>", Sign::Binary(Arithmetic(ShiftRight))),
     (b"<<", Sign::Binary(Arithmetic(ShiftLeft))),
@@ -107,7 +107,7 @@ pub const SIGNS: [(&[u8], Sign); 43] = [
 ];
 
 /// The words that may stand behind `Threads.` and `Base.Threads.`.
-pub const OF_THREADS: [&[u8]; 8] = [
+pub(crate) const OF_THREADS: [&[u8]; 8] = [
     b"@spawn",
     b"@threads",
     b"Atomic",
@@ -119,4 +119,4 @@ pub const OF_THREADS: [&[u8]; 8] = [
 ];
 
 /// The words that may stand behind `Base.`.
-pub const OF_BASE: [&[u8]; 4] = [b"Event", b"Semaphore", b"acquire", b"release"];
+pub(crate) const OF_BASE: [&[u8]; 4] = [b"Event", b"Semaphore", b"acquire", b"release"];

@@ -4,14 +4,14 @@ ghost use Rattle.std.specs.Prelude.{◌≡◌, ◌<◌, ◌≤◌, ◌+◌, ◌-
 ghost use Rattle.std.specs.Str.{bytes_eq};
 ghost use Rattle.jt_lexer.specs.Pieces as spec;
 
-use crate::piece::{Fault, Piece, Shape, byte};
+use crate::piece::{Defect, Piece, Shape, byte};
 use crate::table::{OF_BASE, OF_THREADS, WORDS};
 use jt_syntax::Sign;
 
 fn word_len(z: &[u8]) -> usize
     ensures value { result ≡ spec.word_len z.now }
     ensures within { result ≤ length z.now }
-    ensures moves { spec.goes_on (slice_index z.now 0) ≡ true → 1 ≤ result }
+    ensures moves { spec.continues_word (slice_index z.now 0) ≡ true → 1 ≤ result }
 {
     for (at, b) in z.iter().enumerate() {
         if !(b.is_ascii_alphanumeric() || *b == b'_' || (*b == b'!' && byte(z, at + 1) != b'=')) {
@@ -134,12 +134,12 @@ fn reserved(word: &[u8]) -> Option<Sign>
 }
 
 /// The word at the front of a text that begins with a letter, `_` or `@`.
-#[tactic(auto, unfolding(crate::specs::Pieces::word))]
-pub fn word(z: &[u8]) -> Result<Piece, Fault>
+#[tactic(auto, unfolding(crate::specs::Pieces::word_at))]
+pub(crate) fn word(z: &[u8]) -> Result<Piece, Defect>
     requires { spec.begins_word (slice_index z.now 0) ≡ true }
-    ensures value { result ≡ spec.word z.now }
+    ensures value { result ≡ spec.word_at z.now }
     ensures within { IfOk result (λ p. (1 ≤ p.1) × (p.1 ≤ length z.now)) }
-    ensures refused { IfErr result (spec.FaultsWithin (length z.now)) }
+    ensures refused { IfErr result (spec.DefectsWithin (length z.now)) }
     ensures shaped { IfOk result (λ p. spec.IsShapedWithin p.0 p.1) }
 {
     if is_base_threads(z) {
@@ -151,9 +151,9 @@ pub fn word(z: &[u8]) -> Result<Piece, Fault>
     let end = start + length;
     let is_macro = byte(bare, 0) == b'@';
     match reserved(&bare[..length]) {
-        Some(_) if is_macro && byte(z, end) == b'(' => Err(Fault::BadCharacter(end)),
+        Some(_) if is_macro && byte(z, end) == b'(' => Err(Defect::BadCharacter(end)),
         Some(sign) => Ok((Shape::Sign(sign), end)),
-        None if is_macro => Err(Fault::BadCharacter(start)),
+        None if is_macro => Err(Defect::BadCharacter(start)),
         None => Ok((Shape::Name(start), end)),
     }
 }

@@ -8,7 +8,7 @@ pub enum ParseError {
     /// The tokens before the one that begins here begin a script, and with it they begin none.
     #[error("unexpected token at {0}")]
     Unexpected(u32),
-    /// The opener that begins here is the first that would be open inside 200 others.
+    /// The opener that begins here is the first that would be open inside `MOST_OPEN` others.
     #[error("nested too deeply at {0}")]
     TooDeep(u32),
     /// There was no memory for the script.

@@ -1,23 +1,22 @@
 //! From tokens to a script.
 
-ghost use Rattle.std.specs.Prelude.{◌≡◌, ◌-◌, ◌<◌, ◌≤◌, List, length, map, Some, slice_get, IfOk, IfErr};
+ghost use Rattle.std.specs.Prelude.{◌≡◌, ◌+◌, ◌-◌, ◌<◌, ◌≤◌, List, length, map, Some, slice_get, IfOk, IfErr};
+ghost use Rattle.jt_base.specs.Limits.{most_script, most_open};
 ghost use Rattle.jt_grammar.specs.Grammar.{EndsWithStop};
 ghost use Rattle.jt_grammar.specs.Joined.{IsScriptOf};
 ghost use Rattle.jt_grammar.specs.Nesting.{TopsWithin};
 ghost use Rattle.jt_syntax.specs.Tree.{TopTree};
 ghost use Rattle.jt_syntax.specs.View.{script_view};
 ghost use Rattle.jt_syntax.specs.declared.token.Token.{Token};
-ghost use Rattle.jt_parser.specs.Refusals.{Refuses};
+ghost use Rattle.jt_parser.specs.Refusals.{RefusesTokens};
 ghost use Rattle.jt_cursor.specs.Tokens.{now};
 
 use crate::error::ParseError;
 use crate::top::script;
-use jt_cursor::{Cursor, Fault, join};
+use jt_base::MOST_OPEN;
+use jt_cursor::{Cursor, Failure, join};
 use jt_syntax::{Script, Token};
 use std::alloc::Global;
-
-/// How many openers may be open at once.
-const OPENERS: usize = 200;
 
 /// Where the token stands behind which, itself counted, so many are left.
 fn place(tokens: &[&Token], left: usize) -> u32
@@ -39,26 +38,26 @@ fn place(tokens: &[&Token], left: usize) -> u32
 /// - `Unexpected` with the place of the first token with which the tokens up to it begin no script,
 ///   while those before it begin one.
 /// - `TooDeep` with the place of the first opener that could stand there but would be open inside
-///   200 others. The openers are brackets, `begin`, `function`, `if`, `while`, `for`, the macro
+///   `MOST_OPEN` others. The openers are brackets, `begin`, `function`, `if`, `while`, `for`, the macro
 ///   words, `?`, `^` and the unary operators; each is open up to its closing token, or to the end of
 ///   what it takes.
 /// - `OutOfMemory` where there is no memory for the script.
 pub fn parse(alloc: Global, tokens: &[Token]) -> Result<Script, ParseError>
     requires whole { EndsWithStop tokens.now }
-    requires few { length tokens.now ≤ 1048577 }
-    ensures found { IfOk result (λ s. IsScriptOf tokens.now (script_view s) × TopsWithin 200 (script_view s)) }
+    requires few { length tokens.now ≤ most_script + 1 }
+    ensures found { IfOk result (λ s. IsScriptOf tokens.now (script_view s) × TopsWithin most_open (script_view s)) }
     ensures only { IfOk result (λ s. (others : List TopTree) → IsScriptOf tokens.now others → script_view s ≡ others) }
-    ensures refused { IfErr result (Refuses tokens.now) }
+    ensures refused { IfErr result (RefusesTokens tokens.now) }
 {
     let Ok(kept) = join(alloc, tokens) else {
         return Err(ParseError::OutOfMemory);
     };
     let mut cursor = Cursor::new(&kept);
-    match script(alloc, &mut cursor, kept.len() + 1, OPENERS) {
+    match script(alloc, &mut cursor, kept.len() + 1, MOST_OPEN) {
         Ok(tops) => Ok(Script { tops }),
-        Err(Fault::OutOfMemory) => Err(ParseError::OutOfMemory),
-        Err(Fault::Unexpected(left)) => Err(ParseError::Unexpected(place(&kept, left))),
-        Err(Fault::TooDeep(left)) => Err(ParseError::TooDeep(place(&kept, left))),
-        Err(Fault::Spent) => unreachable!(),
+        Err(Failure::OutOfMemory) => Err(ParseError::OutOfMemory),
+        Err(Failure::Unexpected(left)) => Err(ParseError::Unexpected(place(&kept, left))),
+        Err(Failure::TooDeep(left)) => Err(ParseError::TooDeep(place(&kept, left))),
+        Err(Failure::Spent) => unreachable!(),
     }
 }

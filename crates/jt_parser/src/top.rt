@@ -4,10 +4,10 @@ ghost use Rattle.std.specs.Prelude.{[], ◌∷◌};
 ghost use Rattle.jt_grammar.specs.Reader as spec;
 ghost use Rattle.jt_syntax.specs.View.{stmt_view, form_view, top_view, top_views};
 ghost use Rattle.jt_expressions.specs.Nested.{nested};
-ghost use Rattle.jt_cursor.specs.Reads.{Reads, same};
+ghost use Rattle.jt_cursor.specs.Parses.{Parses, same};
 ghost use Rattle.jt_parser.specs.Forms.{function_body, named_function, short_function, stepped_form};
 
-use jt_cursor::{Cursor, Fault, Kind, ends, step_target};
+use jt_cursor::{Cursor, Failure, Kind, ends, step_target};
 use jt_grammar::Target;
 use jt_statements::{statement, tail, whole};
 use jt_syntax::{Identifier, Sign, Stmt, Top, TopForm};
@@ -25,16 +25,16 @@ struct TopRules {
 }
 
 impl TopRules {
-    fn using_read(&self, tokens: &mut Cursor<'_>) -> Result<TopForm, Fault>
-        ensures { Reads form_view (nested spec.using_read self.now.turns self.now.depth tokens.old) result tokens.new }
+    fn using_read(&self, tokens: &mut Cursor<'_>) -> Result<TopForm, Failure>
+        ensures { Parses form_view (nested spec.using_read self.now.turns self.now.depth tokens.old) result tokens.new }
     {
         tokens.skip()?;
         tokens.expect(Sign::BaseThreads)?;
         Ok(TopForm::Using)
     }
 
-    fn constant_read(&self, tokens: &mut Cursor<'_>) -> Result<TopForm, Fault>
-        ensures { Reads form_view (nested spec.constant_read self.now.turns self.now.depth tokens.old) result tokens.new }
+    fn constant_read(&self, tokens: &mut Cursor<'_>) -> Result<TopForm, Failure>
+        ensures { Parses form_view (nested spec.constant_read self.now.turns self.now.depth tokens.old) result tokens.new }
     {
         tokens.skip()?;
         let name = tokens.word(self.alloc)?;
@@ -46,8 +46,8 @@ impl TopRules {
         &self,
         tokens: &mut Cursor<'_>,
         mut found: Items<Identifier>,
-    ) -> Result<Items<Identifier>, Fault>
-        ensures { Reads same (spec.commas_from spec.word [] (λ i is. i ∷ is) self.now.turns found tokens.old) result tokens.new }
+    ) -> Result<Items<Identifier>, Failure>
+        ensures { Parses same (spec.commas_from spec.word [] (λ i is. i ∷ is) self.now.turns found tokens.old) result tokens.new }
     {
         for _turn in 0..self.turns {
             if !tokens.sees(Sign::Comma) {
@@ -56,12 +56,12 @@ impl TopRules {
             tokens.skip()?;
             found.push(tokens.word(self.alloc)?)?;
         }
-        Err(Fault::Spent)
+        Err(Failure::Spent)
     }
 
     #[tactic(auto, using(jt_cursor::proofs::Lists::commas_one))]
-    fn names(&self, tokens: &mut Cursor<'_>) -> Result<Items<Identifier>, Fault>
-        ensures { Reads same (nested spec.names self.now.turns self.now.depth tokens.old) result tokens.new }
+    fn names(&self, tokens: &mut Cursor<'_>) -> Result<Items<Identifier>, Failure>
+        ensures { Parses same (nested spec.names self.now.turns self.now.depth tokens.old) result tokens.new }
     {
         let mut found = Items::new(self.alloc);
         if tokens.sees(Sign::Close) {
@@ -77,8 +77,8 @@ impl TopRules {
         tokens: &mut Cursor<'_>,
         name: Identifier,
         parameters: Items<Identifier>,
-    ) -> Result<TopForm, Fault>
-        ensures { Reads form_view (nested function_body self.now.turns self.now.depth name parameters tokens.old) result tokens.new }
+    ) -> Result<TopForm, Failure>
+        ensures { Parses form_view (nested function_body self.now.turns self.now.depth name parameters tokens.old) result tokens.new }
     {
         let body = tail(self.alloc, tokens, self.turns, self.depth)?;
         tokens.expect(Sign::End)?;
@@ -86,8 +86,8 @@ impl TopRules {
     }
 
     /// Behind the name of a function.
-    fn named_function(&self, tokens: &mut Cursor<'_>, name: Identifier) -> Result<TopForm, Fault>
-        ensures { Reads form_view (nested named_function self.now.turns self.now.depth name tokens.old) result tokens.new }
+    fn named_function(&self, tokens: &mut Cursor<'_>, name: Identifier) -> Result<TopForm, Failure>
+        ensures { Parses form_view (nested named_function self.now.turns self.now.depth name tokens.old) result tokens.new }
     {
         tokens.opening(self.depth.saturating_sub(1), Sign::Open)?;
         let parameters = self.names(tokens)?;
@@ -95,8 +95,8 @@ impl TopRules {
         self.function_body(tokens, name, parameters)
     }
 
-    fn function_read(&self, tokens: &mut Cursor<'_>) -> Result<TopForm, Fault>
-        ensures { Reads form_view (nested spec.function_read self.now.turns self.now.depth tokens.old) result tokens.new }
+    fn function_read(&self, tokens: &mut Cursor<'_>) -> Result<TopForm, Failure>
+        ensures { Parses form_view (nested spec.function_read self.now.turns self.now.depth tokens.old) result tokens.new }
     {
         tokens.opening(self.depth, Sign::Function)?;
         let name = tokens.word(self.alloc)?;
@@ -108,8 +108,8 @@ impl TopRules {
         tokens: &mut Cursor<'_>,
         name: Identifier,
         parameters: Items<Identifier>,
-    ) -> Result<TopForm, Fault>
-        ensures { Reads form_view (nested short_function self.now.turns self.now.depth name parameters tokens.old) result tokens.new }
+    ) -> Result<TopForm, Failure>
+        ensures { Parses form_view (nested short_function self.now.turns self.now.depth name parameters tokens.old) result tokens.new }
     {
         tokens.skip()?;
         Ok(TopForm::ShortFunction(
@@ -124,8 +124,8 @@ impl TopRules {
         tokens: &mut Cursor<'_>,
         step: Stmt,
         target: Target,
-    ) -> Result<TopForm, Fault>
-        ensures { Reads form_view (nested spec.short_by self.now.turns self.now.depth (stmt_view step) target tokens.old) result tokens.new }
+    ) -> Result<TopForm, Failure>
+        ensures { Parses form_view (nested spec.short_by self.now.turns self.now.depth (stmt_view step) target tokens.old) result tokens.new }
     {
         match target {
             Target::Function(name, parameters) => self.short_function(tokens, name, parameters),
@@ -136,8 +136,8 @@ impl TopRules {
     }
 
     /// Behind a statement, which may be the left side of a short function.
-    fn shortened(&self, tokens: &mut Cursor<'_>, step: Stmt) -> Result<TopForm, Fault>
-        ensures { Reads form_view (nested spec.shortened self.now.turns self.now.depth (stmt_view step) tokens.old) result tokens.new }
+    fn shortened(&self, tokens: &mut Cursor<'_>, step: Stmt) -> Result<TopForm, Failure>
+        ensures { Parses form_view (nested spec.shortened self.now.turns self.now.depth (stmt_view step) tokens.old) result tokens.new }
     {
         if !tokens.sees(Sign::Assign) {
             return Ok(TopForm::Stmt(step));
@@ -146,15 +146,15 @@ impl TopRules {
         self.short_by(tokens, step, target)
     }
 
-    fn stepped_form(&self, tokens: &mut Cursor<'_>) -> Result<TopForm, Fault>
-        ensures { Reads form_view (nested stepped_form self.now.turns self.now.depth tokens.old) result tokens.new }
+    fn stepped_form(&self, tokens: &mut Cursor<'_>) -> Result<TopForm, Failure>
+        ensures { Parses form_view (nested stepped_form self.now.turns self.now.depth tokens.old) result tokens.new }
     {
         let step = statement(self.alloc, tokens, self.turns, self.depth)?;
         self.shortened(tokens, step)
     }
 
-    fn form(&self, tokens: &mut Cursor<'_>) -> Result<TopForm, Fault>
-        ensures { Reads form_view (nested spec.form_by self.now.turns self.now.depth (spec.kind_of tokens.old) tokens.old) result tokens.new }
+    fn form(&self, tokens: &mut Cursor<'_>) -> Result<TopForm, Failure>
+        ensures { Parses form_view (nested spec.form_by self.now.turns self.now.depth (spec.kind_of tokens.old) tokens.old) result tokens.new }
     {
         match tokens.kind() {
             Kind::Sign(Sign::Using) => self.using_read(tokens),
@@ -166,8 +166,8 @@ impl TopRules {
     }
 
     #[tactic(auto, unfolding(jt_grammar::specs::Reader::topped))]
-    fn topped(&self, tokens: &mut Cursor<'_>) -> Result<Top, Fault>
-        ensures { Reads top_view (nested spec.topped self.now.turns self.now.depth tokens.old) result tokens.new }
+    fn topped(&self, tokens: &mut Cursor<'_>) -> Result<Top, Failure>
+        ensures { Parses top_view (nested spec.topped self.now.turns self.now.depth tokens.old) result tokens.new }
     {
         let at = tokens.place();
         let form = self.form(tokens)?;
@@ -181,8 +181,8 @@ fn read_top(
     tokens: &mut Cursor<'_>,
     turns: usize,
     depth: usize,
-) -> Result<Top, Fault>
-    ensures { Reads top_view (spec.read_top turns depth tokens.old) result tokens.new }
+) -> Result<Top, Failure>
+    ensures { Parses top_view (spec.read_top turns depth tokens.old) result tokens.new }
 {
     TopRules {
         alloc,
@@ -197,8 +197,8 @@ fn tops(
     tokens: &mut Cursor<'_>,
     turns: usize,
     depth: usize,
-) -> Result<Items<Top>, Fault>
-    ensures { Reads top_views (spec.list_from turns (spec.read_top turns depth) [] (λ x xs. x ∷ xs) turns [] tokens.old) result tokens.new }
+) -> Result<Items<Top>, Failure>
+    ensures { Parses top_views (spec.list_from turns (spec.read_top turns depth) [] (λ x xs. x ∷ xs) turns [] tokens.old) result tokens.new }
 {
     let mut found = Items::new(alloc);
     for _turn in 0..turns {
@@ -211,7 +211,7 @@ fn tops(
             return Ok(found);
         }
     }
-    Err(Fault::Spent)
+    Err(Failure::Spent)
 }
 
 /// A script in which no more than `depth` openers are open at once.
@@ -221,8 +221,8 @@ pub(crate) fn script(
     tokens: &mut Cursor<'_>,
     turns: usize,
     depth: usize,
-) -> Result<Items<Top>, Fault>
-    ensures { Reads top_views (spec.script turns depth tokens.old) result tokens.new }
+) -> Result<Items<Top>, Failure>
+    ensures { Parses top_views (spec.script turns depth tokens.old) result tokens.new }
 {
     tokens.gap(turns)?;
     let found = tops(alloc, tokens, turns, depth)?;

@@ -8,7 +8,7 @@ use Rattle.jt_syntax.specs.declared.token.TokenKind.{TokenKind}
 use Rattle.jt_syntax.specs.declared.token.TokenKind.TheVariants as kind
 use Rattle.jt_lexer.specs.Pieces.{Text, reserved}
 use Rattle.jt_lexer.specs.Tokens.{IsTokensOf}
-use Rattle.jt_lexer.specs.Spelled.{spelled, placed, HasSpelling, IsPrintable, ArePrintable, IsTextual, AreTextual, IsSpelledName}
+use Rattle.jt_lexer.specs.Spelled.{spelled, placed_from, HasSpelling, IsPrintable, ArePrintable, IsTextual, AreTextual, IsSpelledName}
 use Rattle.jt_lexer.specs.Spelled as lexer
 use Rattle.jt_lexer.proofs.PrintableTokens.{tokens_are_printable}
 use Rattle.jt_lexer.proofs.TextTokens.{tokens_are_textual}
@@ -51,7 +51,7 @@ content_spelled (kind.Number n) f u h = (f tt, u)
 content_spelled (kind.Name n) f u h = (f tt, u)
 content_spelled (kind.Text t) f u h = (f tt, u)
 
-tokens_spelled : (ts : List Token) → lexer.Each (λ k. HasSpelling k → IsPrintable k) (lexer.kinds ts) → AreTextual (lexer.kinds ts) → Allowed IsSpelled ts
+tokens_spelled : (ts : List Token) → lexer.EachKind (λ k. HasSpelling k → IsPrintable k) (lexer.kinds ts) → AreTextual (lexer.kinds ts) → Allowed IsSpelled ts
 tokens_spelled [] a b = tt
 tokens_spelled (t ∷ ts) a b = (content_spelled t.kind a.0 b.0, tokens_spelled ts a.1 b.1)
 
@@ -79,7 +79,7 @@ spelled_reads tops d r =
     let kept = script_kinds-keep IsSpelled spelled_allows tops (joined ts) r.4.0 allowed in
     let printable = are_printable (script_kinds tops) kept in
     let same : (us : List Token) → IsTokensOf (spelled (script_kinds tops)) us → IsSameScript d tops us = λ us of. let x = script_again d tops ts us r.4.0 r.4.1 (tokens_of_spelled (script_kinds tops) us printable of) in (x.0, (x.1, x.2), x.3) in
-    (spelled_text (script_kinds tops) printable (are_textual (script_kinds tops) kept), (placed 0 (script_kinds tops), spelled_tokens (script_kinds tops) printable), same)
+    (spelled_text (script_kinds tops) printable (are_textual (script_kinds tops) kept), (placed_from 0 (script_kinds tops), spelled_tokens (script_kinds tops) printable), same)
 
 pub text_reads : (tops : List TopTree) (text : Text) → text ≡ spelled (script_kinds tops) → (d : ℕ) → WasRead d tops → ReadsAs d tops text
 text_reads tops text e d r = subst (ReadsAs d tops) (sym e) (spelled_reads tops d r)

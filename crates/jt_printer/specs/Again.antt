@@ -26,5 +26,5 @@ abbrev pub ReadsAs : ℕ → List TopTree → Text → Type 0
 ReadsAs d tops text = IsUtf8 text × ((ts : List Token) × IsTokensOf text ts) × ((ts : List Token) → IsTokensOf text ts → IsSameScript d tops ts)
 
 -- the text reads as this very script
-abbrev pub Gives : ℕ → Text → List TopTree → Type 0
-Gives d text tops = (ts : List Token) × IsTokensOf text ts × IsScriptWithin d ts tops
+abbrev pub ReadsExactly : ℕ → Text → List TopTree → Type 0
+ReadsExactly d text tops = (ts : List Token) × IsTokensOf text ts × IsScriptWithin d ts tops

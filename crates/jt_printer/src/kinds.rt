@@ -12,21 +12,21 @@ use std::alloc::Global;
 
 /// The kinds of the tokens that are written so far.
 #[derive(Drop)]
-pub struct Kinds {
+pub(crate) struct Kinds {
     pub alloc: Global,
     pub kinds: Vec<TokenKind>,
 }
 
 // Single tokens, and the forms with no expression in them.
 impl Kinds {
-    pub fn sign(&mut self, sign: Sign) -> Result<(), OutOfMemory>
+    pub(crate) fn sign(&mut self, sign: Sign) -> Result<(), OutOfMemory>
         ensures { Adds (mark sign) self.old.kinds.items result self.new.kinds.items }
     {
         self.kinds.push(TokenKind::Sign(sign))?;
         Ok(())
     }
 
-    pub fn word(&mut self, name: &[u8]) -> Result<(), OutOfMemory>
+    pub(crate) fn word(&mut self, name: &[u8]) -> Result<(), OutOfMemory>
         ensures { Adds (word name.now) self.old.kinds.items result self.new.kinds.items }
     {
         let name = Items::from_slice(self.alloc, name)?;
@@ -34,20 +34,20 @@ impl Kinds {
         Ok(())
     }
 
-    pub fn name(&mut self, identifier: &Identifier) -> Result<(), OutOfMemory>
+    pub(crate) fn name(&mut self, identifier: &Identifier) -> Result<(), OutOfMemory>
         ensures { Adds (word identifier.now.name) self.old.kinds.items result self.new.kinds.items }
     {
         self.word(identifier.name.as_slice())
     }
 
-    pub fn number(&mut self, value: u64) -> Result<(), OutOfMemory>
+    pub(crate) fn number(&mut self, value: u64) -> Result<(), OutOfMemory>
         ensures { Adds (tree_kinds (tree.number value)) self.old.kinds.items result self.new.kinds.items }
     {
         self.kinds.push(TokenKind::Number(value))?;
         Ok(())
     }
 
-    pub fn text(&mut self, text: &Items<u8>) -> Result<(), OutOfMemory>
+    pub(crate) fn text(&mut self, text: &Items<u8>) -> Result<(), OutOfMemory>
         ensures { Adds (quoted text.now) self.old.kinds.items result self.new.kinds.items }
     {
         let text = Items::from_slice(self.alloc, text.as_slice())?;
@@ -55,20 +55,20 @@ impl Kinds {
         Ok(())
     }
 
-    pub fn truth(&mut self, value: bool) -> Result<(), OutOfMemory>
+    pub(crate) fn truth(&mut self, value: bool) -> Result<(), OutOfMemory>
         ensures { Adds (truth_kinds value) self.old.kinds.items result self.new.kinds.items }
     {
         self.sign(if value { Sign::True } else { Sign::False })
     }
 
-    pub fn interpolation(&mut self, identifier: &Identifier) -> Result<(), OutOfMemory>
+    pub(crate) fn interpolation(&mut self, identifier: &Identifier) -> Result<(), OutOfMemory>
         ensures { Adds (mark sign.Dollar ⁀ word identifier.now.name) self.old.kinds.items result self.new.kinds.items }
     {
         self.sign(Sign::Dollar)?;
         self.name(identifier)
     }
 
-    pub fn error(&mut self, text: &Items<u8>) -> Result<(), OutOfMemory>
+    pub(crate) fn error(&mut self, text: &Items<u8>) -> Result<(), OutOfMemory>
         ensures { Adds (tree_kinds (tree.error text.now)) self.old.kinds.items result self.new.kinds.items }
     {
         self.sign(Sign::Error)?;
@@ -77,7 +77,7 @@ impl Kinds {
         self.sign(Sign::Close)
     }
 
-    pub fn of_int64(&mut self) -> Result<(), OutOfMemory>
+    pub(crate) fn of_int64(&mut self) -> Result<(), OutOfMemory>
         ensures { Adds of_int64 self.old.kinds.items result self.new.kinds.items }
     {
         self.sign(Sign::OpenCurly)?;
@@ -85,7 +85,7 @@ impl Kinds {
         self.sign(Sign::CloseCurly)
     }
 
-    pub fn unbuffered(&mut self) -> Result<(), OutOfMemory>
+    pub(crate) fn unbuffered(&mut self) -> Result<(), OutOfMemory>
         ensures { Adds (tree_kinds tree.unbuffered) self.old.kinds.items result self.new.kinds.items }
     {
         self.sign(Sign::Channel)?;
@@ -95,7 +95,7 @@ impl Kinds {
     }
 
     /// A call with the word `Int64` for its argument.
-    pub fn call_of_int64(&mut self, function: Sign) -> Result<(), OutOfMemory>
+    pub(crate) fn call_of_int64(&mut self, function: Sign) -> Result<(), OutOfMemory>
         ensures { Adds (mark function ⁀ mark sign.Open ⁀ mark sign.Int64 ⁀ mark sign.Close) self.old.kinds.items result self.new.kinds.items }
     {
         self.sign(function)?;
@@ -104,7 +104,7 @@ impl Kinds {
         self.sign(Sign::Close)
     }
 
-    pub fn element(&mut self, identifier: &Identifier) -> Result<(), OutOfMemory>
+    pub(crate) fn element(&mut self, identifier: &Identifier) -> Result<(), OutOfMemory>
         ensures { Adds (word identifier.now.name ⁀ mark sign.OpenSquare ⁀ mark sign.CloseSquare) self.old.kinds.items result self.new.kinds.items }
     {
         self.name(identifier)?;
@@ -112,7 +112,7 @@ impl Kinds {
         self.sign(Sign::CloseSquare)
     }
 
-    pub fn pool(&mut self, pool: Option<Pool>) -> Result<(), OutOfMemory>
+    pub(crate) fn pool(&mut self, pool: Option<Pool>) -> Result<(), OutOfMemory>
         ensures { Adds (pool_kinds pool) self.old.kinds.items result self.new.kinds.items }
     {
         let word: &[u8] = match pool {
@@ -124,7 +124,7 @@ impl Kinds {
         self.word(word)
     }
 
-    pub fn schedule(&mut self, schedule: Option<Schedule>) -> Result<(), OutOfMemory>
+    pub(crate) fn schedule(&mut self, schedule: Option<Schedule>) -> Result<(), OutOfMemory>
         ensures { Adds (schedule_kinds schedule) self.old.kinds.items result self.new.kinds.items }
     {
         let word: &[u8] = match schedule {

@@ -13,5 +13,3 @@ mod trees;
 pub use memory::OutOfMemory;
 pub use print::print_script;
 pub use reading::{RereadError, reread};
-pub use script::kinds_of;
-pub use text::spell;

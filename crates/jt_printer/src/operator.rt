@@ -5,7 +5,7 @@ ghost use Rattle.jt_grammar.specs.Grammar as grammar;
 
 use jt_syntax::{ArithmeticOperator, AssignmentOperator, BinaryOperator, Sign, UnaryOperator};
 
-pub fn unary_sign(operator: UnaryOperator) -> Sign
+pub(crate) fn unary_sign(operator: UnaryOperator) -> Sign
     ensures { result ≡ grammar.unary_sign operator }
 {
     match operator {
@@ -18,7 +18,7 @@ pub fn unary_sign(operator: UnaryOperator) -> Sign
     }
 }
 
-pub fn assignment_sign(operator: AssignmentOperator) -> Sign
+pub(crate) fn assignment_sign(operator: AssignmentOperator) -> Sign
     ensures { result ≡ grammar.assignment_sign operator }
 {
     match operator {

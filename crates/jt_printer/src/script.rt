@@ -109,7 +109,7 @@ impl Kinds {
 /// # Errors
 ///
 /// `OutOfMemory`, and no kinds.
-pub fn kinds_of(alloc: Global, script: &Script) -> Result<Vec<TokenKind>, OutOfMemory>
+pub(crate) fn kinds_of(alloc: Global, script: &Script) -> Result<Vec<TokenKind>, OutOfMemory>
     ensures { IfOk result (λ kinds. kinds.items ≡ script_kinds (script_view script.now)) }
 {
     let mut written = Kinds {

@@ -147,7 +147,7 @@ fn push_kind(out: &mut Vec<u8>, kind: &TokenKind) -> Result<(), OutOfMemory>
 /// # Errors
 ///
 /// `OutOfMemory`, and no text.
-pub fn spell(alloc: Global, kinds: &[TokenKind]) -> Result<Vec<u8>, OutOfMemory>
+pub(crate) fn spell(alloc: Global, kinds: &[TokenKind]) -> Result<Vec<u8>, OutOfMemory>
     ensures { IfOk result (λ text. text.items ≡ spelled kinds.now) }
 {
     let mut text = Vec::new(alloc);

@@ -19,7 +19,7 @@ use sqlite_items::{Boxed, Items};
 
 impl Kinds {
     #[cycle(expression)]
-    pub fn expression(&mut self, expression: &Expr) -> Result<(), OutOfMemory>
+    pub(crate) fn expression(&mut self, expression: &Expr) -> Result<(), OutOfMemory>
         ensures { Adds (tree_kinds (view expression.now)) self.old.kinds.items result self.new.kinds.items }
     {
         match expression {
@@ -157,7 +157,7 @@ impl Kinds {
     }
 
     #[cycle(expression)]
-    pub fn prefixed(&mut self, sign: Sign, operand: &Boxed<Expr>) -> Result<(), OutOfMemory>
+    pub(crate) fn prefixed(&mut self, sign: Sign, operand: &Boxed<Expr>) -> Result<(), OutOfMemory>
         ensures { Adds (mark sign ⁀ tree_kinds (view operand.now)) self.old.kinds.items result self.new.kinds.items }
     {
         self.sign(sign)?;
@@ -269,7 +269,7 @@ impl Kinds {
 
     /// The statements of a loop, behind its head.
     #[cycle(expression)]
-    pub fn body(&mut self, body: &Items<Stmt>) -> Result<(), OutOfMemory>
+    pub(crate) fn body(&mut self, body: &Items<Stmt>) -> Result<(), OutOfMemory>
         ensures { Adds (mark sign.Semicolon ⁀ steps_kinds (stmt_views body.now) ⁀ mark sign.End) self.old.kinds.items result self.new.kinds.items }
     {
         self.sign(Sign::Semicolon)?;
@@ -344,7 +344,7 @@ impl Kinds {
 
     /// Each with a semicolon behind it.
     #[cycle(expression)]
-    pub fn statements(&mut self, statements: &[Stmt]) -> Result<(), OutOfMemory>
+    pub(crate) fn statements(&mut self, statements: &[Stmt]) -> Result<(), OutOfMemory>
         ensures { Adds (steps_kinds (stmt_views statements.now)) self.old.kinds.items result self.new.kinds.items }
     {
         for statement in statements {
@@ -355,7 +355,7 @@ impl Kinds {
     }
 
     #[cycle(expression)]
-    pub fn statement(&mut self, statement: &Stmt) -> Result<(), OutOfMemory>
+    pub(crate) fn statement(&mut self, statement: &Stmt) -> Result<(), OutOfMemory>
         ensures { Adds (step_kinds (stmt_view statement.now)) self.old.kinds.items result self.new.kinds.items }
     {
         match statement {

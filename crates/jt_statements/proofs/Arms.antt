@@ -10,10 +10,10 @@ use Rattle.jt_syntax.specs.declared.token.Token.{Token}
 use Rattle.jt_grammar.specs.declared.Level.{Level}
 use Rattle.jt_grammar.specs.declared.Level.TheVariants as levels
 use Rattle.jt_grammar.specs.Reader.{Outcome, Parser, spent, and_then, ◌>>=◌, pure, kind_of, is, skip, body, tail, arms, arms_from}
-use Rattle.jt_cursor.specs.declared.fault.Fault.{Fault}
-use Rattle.jt_cursor.specs.declared.fault.Fault.TheVariants as fault
+use Rattle.jt_cursor.specs.declared.failure.Failure.{Failure}
+use Rattle.jt_cursor.specs.declared.failure.Failure.TheVariants as failure
 use Rattle.jt_statements.specs.Arms.{arm_read, last_read}
-use Rattle.jt_cursor.specs.Reads.{Fails}
+use Rattle.jt_cursor.specs.Parses.{Fails}
 use Rattle.jt_cursor.proofs.Starts.{one_more, no_more}
 
 arms-then : (found : List (Tree × Steps)) (a : Tree × Steps) (rest : Arms) → arms_of (found ++ a ∷ []) rest ≡ arms_of found (tree.arm a.0 a.1 rest)
@@ -125,23 +125,23 @@ module _ (turns depth : ℕ) (expr_in : Level → Parser Tree) (step_in : Parser
         unfolding behind
         arms_done last ts1 reads = last_turn ∙ ap (behind (map arm_view found)) reads
 
-        pub last_refused : (f : Fault) → Fails f (last_read turns depth expr_in step_in ts) → Fails f o
+        pub last_refused : (f : Failure) → Fails f (last_read turns depth expr_in step_in ts) → Fails f o
         unfolding behind
-        last_refused fault.OutOfMemory h = tt
-        last_refused (fault.Unexpected left) h = last_turn ∙ ap (behind (map arm_view found)) h
-        last_refused (fault.TooDeep left) h = last_turn ∙ ap (behind (map arm_view found)) h
-        last_refused fault.Spent h = last_turn ∙ ap (behind (map arm_view found)) h
+        last_refused failure.OutOfMemory h = tt
+        last_refused (failure.Unexpected left) h = last_turn ∙ ap (behind (map arm_view found)) h
+        last_refused (failure.TooDeep left) h = last_turn ∙ ap (behind (map arm_view found)) h
+        last_refused failure.Spent h = last_turn ∙ ap (behind (map arm_view found)) h
 
       module _ (elseif : is sign.ElseIf (kind_of ts) ≡ true) where
         arm_turn : o ≡ and_then (skip ts) (λ _. condition >>= λ c. rest_body >>= λ ss. from (n - (at + 1)) (map arm_view found ++ (c, ss) ∷ []))
         unfolding arms_from
         arm_turn = turn ∙ rw elseif
 
-        pub skip_refused : (f : Fault) → Fails f (skip ts) → Fails f o
-        skip_refused fault.OutOfMemory h = tt
-        skip_refused (fault.Unexpected left) h = arm_turn ∙ ap (λ z. and_then z (λ _. condition >>= λ c. rest_body >>= λ ss. from (n - (at + 1)) (map arm_view found ++ (c, ss) ∷ []))) h
-        skip_refused (fault.TooDeep left) h = arm_turn ∙ ap (λ z. and_then z (λ _. condition >>= λ c. rest_body >>= λ ss. from (n - (at + 1)) (map arm_view found ++ (c, ss) ∷ []))) h
-        skip_refused fault.Spent h = arm_turn ∙ ap (λ z. and_then z (λ _. condition >>= λ c. rest_body >>= λ ss. from (n - (at + 1)) (map arm_view found ++ (c, ss) ∷ []))) h
+        pub skip_refused : (f : Failure) → Fails f (skip ts) → Fails f o
+        skip_refused failure.OutOfMemory h = tt
+        skip_refused (failure.Unexpected left) h = arm_turn ∙ ap (λ z. and_then z (λ _. condition >>= λ c. rest_body >>= λ ss. from (n - (at + 1)) (map arm_view found ++ (c, ss) ∷ []))) h
+        skip_refused (failure.TooDeep left) h = arm_turn ∙ ap (λ z. and_then z (λ _. condition >>= λ c. rest_body >>= λ ss. from (n - (at + 1)) (map arm_view found ++ (c, ss) ∷ []))) h
+        skip_refused failure.Spent h = arm_turn ∙ ap (λ z. and_then z (λ _. condition >>= λ c. rest_body >>= λ ss. from (n - (at + 1)) (map arm_view found ++ (c, ss) ∷ []))) h
 
         module _ (t : Token) (ts1 : List Token) (skips : skip ts ≡ Ok (t, ts1)) where
           tail_read : (c : Tree) (p : Outcome Steps)
@@ -158,11 +158,11 @@ module _ (turns depth : ℕ) (expr_in : Level → Parser Tree) (step_in : Parser
           read_turn : o ≡ and_then (arm_read turns depth expr_in step_in ts1) (λ a. from (n - (at + 1)) (map arm_view found ++ a ∷ []))
           read_turn = arm_turn ∙ (ap (λ z. and_then z (λ _. condition >>= λ c. rest_body >>= λ ss. from (n - (at + 1)) (map arm_view found ++ (c, ss) ∷ []))) skips ∙ both_read (condition ts1))
 
-          pub arm_refused : (f : Fault) → Fails f (arm_read turns depth expr_in step_in ts1) → Fails f o
-          arm_refused fault.OutOfMemory h = tt
-          arm_refused (fault.Unexpected left) h = read_turn ∙ ap (λ z. and_then z (λ a. from (n - (at + 1)) (map arm_view found ++ a ∷ []))) h
-          arm_refused (fault.TooDeep left) h = read_turn ∙ ap (λ z. and_then z (λ a. from (n - (at + 1)) (map arm_view found ++ a ∷ []))) h
-          arm_refused fault.Spent h = read_turn ∙ ap (λ z. and_then z (λ a. from (n - (at + 1)) (map arm_view found ++ a ∷ []))) h
+          pub arm_refused : (f : Failure) → Fails f (arm_read turns depth expr_in step_in ts1) → Fails f o
+          arm_refused failure.OutOfMemory h = tt
+          arm_refused (failure.Unexpected left) h = read_turn ∙ ap (λ z. and_then z (λ a. from (n - (at + 1)) (map arm_view found ++ a ∷ []))) h
+          arm_refused (failure.TooDeep left) h = read_turn ∙ ap (λ z. and_then z (λ a. from (n - (at + 1)) (map arm_view found ++ a ∷ []))) h
+          arm_refused failure.Spent h = read_turn ∙ ap (λ z. and_then z (λ a. from (n - (at + 1)) (map arm_view found ++ a ∷ []))) h
 
           pub arms_go : (a : Arm) (ts2 : List Token) → arm_read turns depth expr_in step_in ts1 ≡ Ok (arm_view a, ts2) → (new : List Arm) → new ≡ found ++ a ∷ [] → o ≡ from (n - (at + 1)) (map arm_view new) ts2
           arms_go a ts2 reads new pushes =

@@ -3,10 +3,10 @@
 ghost use Rattle.jt_grammar.specs.Reader as spec;
 ghost use Rattle.jt_syntax.specs.View.{view};
 ghost use Rattle.jt_expressions.specs.Nested.{nested};
-ghost use Rattle.jt_cursor.specs.Reads.{Reads};
+ghost use Rattle.jt_cursor.specs.Parses.{Parses};
 
 use crate::phrases::Phrases;
-use jt_cursor::{Cursor, Fault, Kind};
+use jt_cursor::{Cursor, Failure, Kind};
 use jt_expressions::Nested;
 use jt_grammar::Level;
 use jt_syntax::{Class, Expr, Sign};
@@ -15,9 +15,9 @@ use sqlite_items::Boxed;
 impl<N: Nested> Phrases<N> {
     /// Any expression.
     #[tactic(auto, unfolding(jt_grammar::specs::Reader::whole))]
-    pub(crate) fn whole(&self, tokens: &mut Cursor<'_>) -> Result<Boxed<Expr>, Fault>
+    pub(crate) fn whole(&self, tokens: &mut Cursor<'_>) -> Result<Boxed<Expr>, Failure>
         requires { N.nests self.now.rules.nested self.now.rules.turns self.now.rules.depth }
-        ensures { Reads view (nested spec.whole self.now.rules.turns self.now.rules.depth tokens.old) result tokens.new }
+        ensures { Parses view (nested spec.whole self.now.rules.turns self.now.rules.depth tokens.old) result tokens.new }
     {
         match tokens.kind() {
             Kind::Sign(Sign::Begin) => self.blocked(tokens),
@@ -34,9 +34,9 @@ impl<N: Nested> Phrases<N> {
     }
 
     /// As much of an expression as the level says.
-    pub(crate) fn rule(&self, tokens: &mut Cursor<'_>, level: Level) -> Result<Boxed<Expr>, Fault>
+    pub(crate) fn rule(&self, tokens: &mut Cursor<'_>, level: Level) -> Result<Boxed<Expr>, Failure>
         requires { N.nests self.now.rules.nested self.now.rules.turns self.now.rules.depth }
-        ensures { Reads view (nested spec.rule self.now.rules.turns self.now.rules.depth level tokens.old) result tokens.new }
+        ensures { Parses view (nested spec.rule self.now.rules.turns self.now.rules.depth level tokens.old) result tokens.new }
     {
         match level {
             Level::Operand => self.rules.operand(tokens),

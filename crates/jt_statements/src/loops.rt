@@ -4,18 +4,18 @@ ghost use Rattle.jt_grammar.specs.Reader as spec;
 ghost use Rattle.jt_syntax.specs.View.{view};
 ghost use Rattle.jt_syntax.specs.declared.token.Sign.TheVariants as sign;
 ghost use Rattle.jt_expressions.specs.Nested.{nested};
-ghost use Rattle.jt_cursor.specs.Reads.{Reads, same};
+ghost use Rattle.jt_cursor.specs.Parses.{Parses, same};
 ghost use Rattle.jt_cursor.specs.Tokens.{now};
 
 use crate::phrases::Phrases;
-use jt_cursor::{Cursor, Fault, is_sum};
+use jt_cursor::{Cursor, Failure, is_sum};
 use jt_expressions::Nested;
 use jt_grammar::Level;
 use jt_syntax::{Expr, Identifier, Sign, Token};
 use sqlite_items::Boxed;
 
-fn in_or_assign<'a>(tokens: &mut Cursor<'a>) -> Result<&'a Token, Fault>
-    ensures { Reads now (spec.on sign.In spec.skip (spec.expect sign.Assign) tokens.old) result tokens.new }
+fn in_or_assign<'a>(tokens: &mut Cursor<'a>) -> Result<&'a Token, Failure>
+    ensures { Parses now (spec.on sign.In spec.skip (spec.expect sign.Assign) tokens.old) result tokens.new }
 {
     if tokens.sees(Sign::In) {
         tokens.skip()
@@ -25,8 +25,8 @@ fn in_or_assign<'a>(tokens: &mut Cursor<'a>) -> Result<&'a Token, Fault>
 }
 
 impl<N: Nested> Phrases<N> {
-    fn loop_header(&self, tokens: &mut Cursor<'_>) -> Result<Identifier, Fault>
-        ensures { Reads same (nested spec.loop_header self.now.rules.turns self.now.rules.depth tokens.old) result tokens.new }
+    fn loop_header(&self, tokens: &mut Cursor<'_>) -> Result<Identifier, Failure>
+        ensures { Parses same (nested spec.loop_header self.now.rules.turns self.now.rules.depth tokens.old) result tokens.new }
     {
         tokens.opening(self.rules.depth, Sign::For)?;
         let name = tokens.word(self.rules.alloc)?;
@@ -39,9 +39,9 @@ impl<N: Nested> Phrases<N> {
         tokens: &mut Cursor<'_>,
         name: Identifier,
         channel: Boxed<Expr>,
-    ) -> Result<Boxed<Expr>, Fault>
+    ) -> Result<Boxed<Expr>, Failure>
         requires { N.nests self.now.rules.nested self.now.rules.turns self.now.rules.depth }
-        ensures { Reads view (nested spec.each_looped self.now.rules.turns self.now.rules.depth name (view channel) tokens.old) result tokens.new }
+        ensures { Parses view (nested spec.each_looped self.now.rules.turns self.now.rules.depth name (view channel) tokens.old) result tokens.new }
     {
         let body = self.tail(tokens)?;
         tokens.expect(Sign::End)?;
@@ -53,9 +53,9 @@ impl<N: Nested> Phrases<N> {
         tokens: &mut Cursor<'_>,
         name: Identifier,
         first: Boxed<Expr>,
-    ) -> Result<Boxed<Expr>, Fault>
+    ) -> Result<Boxed<Expr>, Failure>
         requires { N.nests self.now.rules.nested self.now.rules.turns self.now.rules.depth }
-        ensures { Reads view (nested spec.range_looped self.now.rules.turns self.now.rules.depth name (view first) tokens.old) result tokens.new }
+        ensures { Parses view (nested spec.range_looped self.now.rules.turns self.now.rules.depth name (view first) tokens.old) result tokens.new }
     {
         tokens.expect(Sign::Colon)?;
         let last = self.rules.inner(tokens, Level::Sum)?;
@@ -70,9 +70,9 @@ impl<N: Nested> Phrases<N> {
         tokens: &mut Cursor<'_>,
         name: Identifier,
         first: Boxed<Expr>,
-    ) -> Result<Boxed<Expr>, Fault>
+    ) -> Result<Boxed<Expr>, Failure>
         requires { N.nests self.now.rules.nested self.now.rules.turns self.now.rules.depth }
-        ensures { Reads view (nested spec.looped_over self.now.rules.turns self.now.rules.depth name (view first) tokens.old) result tokens.new }
+        ensures { Parses view (nested spec.looped_over self.now.rules.turns self.now.rules.depth name (view first) tokens.old) result tokens.new }
     {
         if !tokens.sees(Sign::Colon) {
             return self.each_looped(tokens, name, first);
@@ -84,9 +84,9 @@ impl<N: Nested> Phrases<N> {
     }
 
     /// A loop over a range or a channel.
-    pub(crate) fn looped(&self, tokens: &mut Cursor<'_>) -> Result<Boxed<Expr>, Fault>
+    pub(crate) fn looped(&self, tokens: &mut Cursor<'_>) -> Result<Boxed<Expr>, Failure>
         requires { N.nests self.now.rules.nested self.now.rules.turns self.now.rules.depth }
-        ensures { Reads view (nested spec.looped self.now.rules.turns self.now.rules.depth tokens.old) result tokens.new }
+        ensures { Parses view (nested spec.looped self.now.rules.turns self.now.rules.depth tokens.old) result tokens.new }
     {
         let name = self.loop_header(tokens)?;
         let first = self.rules.inner(tokens, Level::Condition)?;
@@ -95,9 +95,9 @@ impl<N: Nested> Phrases<N> {
 
     /// A loop over a range.
     #[tactic(auto, unfolding(jt_grammar::specs::Reader::range_loop))]
-    pub(crate) fn range_loop(&self, tokens: &mut Cursor<'_>) -> Result<Boxed<Expr>, Fault>
+    pub(crate) fn range_loop(&self, tokens: &mut Cursor<'_>) -> Result<Boxed<Expr>, Failure>
         requires { N.nests self.now.rules.nested self.now.rules.turns self.now.rules.depth }
-        ensures { Reads view (nested spec.range_loop self.now.rules.turns self.now.rules.depth tokens.old) result tokens.new }
+        ensures { Parses view (nested spec.range_loop self.now.rules.turns self.now.rules.depth tokens.old) result tokens.new }
     {
         let name = self.loop_header(tokens)?;
         let first = self.rules.inner(tokens, Level::Sum)?;

@@ -2,11 +2,11 @@
 
 ghost use Rattle.jt_grammar.specs.Reader as spec;
 ghost use Rattle.jt_syntax.specs.View.{view, stmt_view, stmt_views};
-ghost use Rattle.jt_cursor.specs.Reads.{Reads};
+ghost use Rattle.jt_cursor.specs.Parses.{Parses};
 ghost use Rattle.jt_expressions.specs.Nested.{nested};
 
 use crate::phrases::Phrases;
-use jt_cursor::{Cursor, Fault};
+use jt_cursor::{Cursor, Failure};
 use jt_grammar::Level;
 use jt_syntax::{Expr, Stmt};
 use sqlite_items::{Boxed, Items};
@@ -20,11 +20,11 @@ fn read(
     turns: usize,
     depth: usize,
     level: Level,
-) -> Result<Boxed<Expr>, Fault>
-    ensures { Reads view (spec.read turns depth level tokens.old) result tokens.new }
+) -> Result<Boxed<Expr>, Failure>
+    ensures { Parses view (spec.read turns depth level tokens.old) result tokens.new }
 {
     if depth == 0 {
-        return Err(Fault::Spent);
+        return Err(Failure::Spent);
     }
     Phrases::new(alloc, turns, depth - 1, read, read_step).rule(tokens, level)
 }
@@ -36,11 +36,11 @@ fn read_step(
     tokens: &mut Cursor<'_>,
     turns: usize,
     depth: usize,
-) -> Result<Stmt, Fault>
-    ensures { Reads stmt_view (spec.read_step turns depth tokens.old) result tokens.new }
+) -> Result<Stmt, Failure>
+    ensures { Parses stmt_view (spec.read_step turns depth tokens.old) result tokens.new }
 {
     if depth == 0 {
-        return Err(Fault::Spent);
+        return Err(Failure::Spent);
     }
     Phrases::new(alloc, turns, depth - 1, read, read_step).stepped(tokens)
 }
@@ -51,8 +51,8 @@ pub fn whole(
     tokens: &mut Cursor<'_>,
     turns: usize,
     depth: usize,
-) -> Result<Boxed<Expr>, Fault>
-    ensures { Reads view (nested spec.whole turns depth tokens.old) result tokens.new }
+) -> Result<Boxed<Expr>, Failure>
+    ensures { Parses view (nested spec.whole turns depth tokens.old) result tokens.new }
 {
     Phrases::new(alloc, turns, depth, read, read_step).whole(tokens)
 }
@@ -63,8 +63,8 @@ pub fn statement(
     tokens: &mut Cursor<'_>,
     turns: usize,
     depth: usize,
-) -> Result<Stmt, Fault>
-    ensures { Reads stmt_view (nested spec.stepped turns depth tokens.old) result tokens.new }
+) -> Result<Stmt, Failure>
+    ensures { Parses stmt_view (nested spec.stepped turns depth tokens.old) result tokens.new }
 {
     Phrases::new(alloc, turns, depth, read, read_step).stepped(tokens)
 }
@@ -76,8 +76,8 @@ pub fn tail(
     tokens: &mut Cursor<'_>,
     turns: usize,
     depth: usize,
-) -> Result<Items<Stmt>, Fault>
-    ensures { Reads stmt_views (nested spec.tail turns depth tokens.old) result tokens.new }
+) -> Result<Items<Stmt>, Failure>
+    ensures { Parses stmt_views (nested spec.tail turns depth tokens.old) result tokens.new }
 {
     Phrases::new(alloc, turns, depth, read, read_step).tail(tokens)
 }

@@ -2,7 +2,7 @@
 
 ghost use Rattle.jt_statements.specs.Nests.{Nests};
 
-use jt_cursor::{Cursor, Fault};
+use jt_cursor::{Cursor, Failure};
 use jt_expressions::Nested;
 use jt_grammar::Level;
 use jt_syntax::{Expr, Stmt};
@@ -17,8 +17,8 @@ pub(crate) struct Readers<F, G> {
 }
 
 impl<
-    F: Fn(Global, &mut Cursor<'_>, usize, usize, Level) -> Result<Boxed<Expr>, Fault>,
-    G: Fn(Global, &mut Cursor<'_>, usize, usize) -> Result<Stmt, Fault>,
+    F: Fn(Global, &mut Cursor<'_>, usize, usize, Level) -> Result<Boxed<Expr>, Failure>,
+    G: Fn(Global, &mut Cursor<'_>, usize, usize) -> Result<Stmt, Failure>,
 > Nested for Readers<F, G> {
     ghost nests = { λ r turns depth. Nests turns depth (F.pre r.expression) (F.post r.expression) (G.pre r.statement) (G.post r.statement) };
 
@@ -29,7 +29,7 @@ impl<
         turns: usize,
         depth: usize,
         level: Level,
-    ) -> Result<Boxed<Expr>, Fault> {
+    ) -> Result<Boxed<Expr>, Failure> {
         (self.expression)(alloc, tokens, turns, depth, level)
     }
 
@@ -39,7 +39,7 @@ impl<
         tokens: &mut Cursor<'_>,
         turns: usize,
         depth: usize,
-    ) -> Result<Stmt, Fault> {
+    ) -> Result<Stmt, Failure> {
         (self.statement)(alloc, tokens, turns, depth)
     }
 }

@@ -8,7 +8,7 @@ ghost use Rattle.jt_expressions.specs.Chains.{terms_view};
 ghost use Rattle.jt_expressions.specs.Guards.{guarded_view, jumped};
 ghost use Rattle.jt_cursor.specs.Kinds.{kind_view};
 ghost use Rattle.jt_expressions.specs.Nested.{nested};
-ghost use Rattle.jt_cursor.specs.Reads.{Reads};
+ghost use Rattle.jt_cursor.specs.Parses.{Parses};
 ghost use Rattle.jt_statements.specs.Statements.{
   element_assigned,
   jump_step,
@@ -18,7 +18,7 @@ ghost use Rattle.jt_statements.specs.Statements.{
 };
 
 use crate::phrases::Phrases;
-use jt_cursor::{Cursor, Fault, Kind, ends, is_separator, target};
+use jt_cursor::{Cursor, Failure, Kind, ends, is_separator, target};
 use jt_expressions::{Guarded, Nested, joined};
 use jt_grammar::Target;
 use jt_syntax::{
@@ -42,16 +42,16 @@ fn assignment_of(kind: Kind<'_>) -> Option<AssignmentOperator>
 }
 
 impl<N: Nested> Phrases<N> {
-    fn return_value(&self, tokens: &mut Cursor<'_>, at: u32) -> Result<Jump, Fault>
+    fn return_value(&self, tokens: &mut Cursor<'_>, at: u32) -> Result<Jump, Failure>
         requires { N.nests self.now.rules.nested self.now.rules.turns self.now.rules.depth }
-        ensures { Reads jump_view (nested return_value self.now.rules.turns self.now.rules.depth at tokens.old) result tokens.new }
+        ensures { Parses jump_view (nested return_value self.now.rules.turns self.now.rules.depth at tokens.old) result tokens.new }
     {
         Ok(Jump::Return(at, Some(self.whole(tokens)?)))
     }
 
-    fn returned(&self, tokens: &mut Cursor<'_>) -> Result<Jump, Fault>
+    fn returned(&self, tokens: &mut Cursor<'_>) -> Result<Jump, Failure>
         requires { N.nests self.now.rules.nested self.now.rules.turns self.now.rules.depth }
-        ensures { Reads jump_view (nested spec.returned self.now.rules.turns self.now.rules.depth tokens.old) result tokens.new }
+        ensures { Parses jump_view (nested spec.returned self.now.rules.turns self.now.rules.depth tokens.old) result tokens.new }
     {
         let word = tokens.skip()?;
         if ends(tokens.kind()) {
@@ -65,9 +65,9 @@ impl<N: Nested> Phrases<N> {
 
     /// A jump.
     #[tactic(auto, unfolding(jt_grammar::specs::Reader::leap))]
-    fn leap(&self, tokens: &mut Cursor<'_>) -> Result<Jump, Fault>
+    fn leap(&self, tokens: &mut Cursor<'_>) -> Result<Jump, Failure>
         requires { N.nests self.now.rules.nested self.now.rules.turns self.now.rules.depth }
-        ensures { Reads jump_view (nested spec.leap self.now.rules.turns self.now.rules.depth tokens.old) result tokens.new }
+        ensures { Parses jump_view (nested spec.leap self.now.rules.turns self.now.rules.depth tokens.old) result tokens.new }
     {
         match tokens.kind() {
             Kind::Sign(Sign::Return) => self.returned(tokens),
@@ -83,17 +83,17 @@ impl<N: Nested> Phrases<N> {
         tokens: &mut Cursor<'_>,
         name: Identifier,
         operator: AssignmentOperator,
-    ) -> Result<Stmt, Fault>
+    ) -> Result<Stmt, Failure>
         requires { N.nests self.now.rules.nested self.now.rules.turns self.now.rules.depth }
-        ensures { Reads stmt_view (nested variable_assigned self.now.rules.turns self.now.rules.depth name operator tokens.old) result tokens.new }
+        ensures { Parses stmt_view (nested variable_assigned self.now.rules.turns self.now.rules.depth name operator tokens.old) result tokens.new }
     {
         tokens.skip()?;
         Ok(Stmt::Assign(name, operator, self.whole(tokens)?))
     }
 
-    fn element_assigned(&self, tokens: &mut Cursor<'_>, name: Identifier) -> Result<Stmt, Fault>
+    fn element_assigned(&self, tokens: &mut Cursor<'_>, name: Identifier) -> Result<Stmt, Failure>
         requires { N.nests self.now.rules.nested self.now.rules.turns self.now.rules.depth }
-        ensures { Reads stmt_view (nested element_assigned self.now.rules.turns self.now.rules.depth name tokens.old) result tokens.new }
+        ensures { Parses stmt_view (nested element_assigned self.now.rules.turns self.now.rules.depth name tokens.old) result tokens.new }
     {
         tokens.skip()?;
         Ok(Stmt::Store(name, self.whole(tokens)?))
@@ -105,9 +105,9 @@ impl<N: Nested> Phrases<N> {
         expr: Boxed<Expr>,
         operator: AssignmentOperator,
         name: Identifier,
-    ) -> Result<Stmt, Fault>
+    ) -> Result<Stmt, Failure>
         requires { N.nests self.now.rules.nested self.now.rules.turns self.now.rules.depth }
-        ensures { Reads stmt_view (nested spec.assigned_to self.now.rules.turns self.now.rules.depth (view expr) operator (targets.Element name) tokens.old) result tokens.new }
+        ensures { Parses stmt_view (nested spec.assigned_to self.now.rules.turns self.now.rules.depth (view expr) operator (targets.Element name) tokens.old) result tokens.new }
     {
         match operator {
             AssignmentOperator::Plain => self.element_assigned(tokens, name),
@@ -125,9 +125,9 @@ impl<N: Nested> Phrases<N> {
         expr: Boxed<Expr>,
         operator: AssignmentOperator,
         target: Target,
-    ) -> Result<Stmt, Fault>
+    ) -> Result<Stmt, Failure>
         requires { N.nests self.now.rules.nested self.now.rules.turns self.now.rules.depth }
-        ensures { Reads stmt_view (nested spec.assigned_to self.now.rules.turns self.now.rules.depth (view expr) operator target tokens.old) result tokens.new }
+        ensures { Parses stmt_view (nested spec.assigned_to self.now.rules.turns self.now.rules.depth (view expr) operator target tokens.old) result tokens.new }
     {
         match target {
             Target::Variable(name) => self.variable_assigned(tokens, name, operator),
@@ -138,9 +138,9 @@ impl<N: Nested> Phrases<N> {
     }
 
     /// Behind what may be the left side of an assignment.
-    fn assigned(&self, tokens: &mut Cursor<'_>, expr: Boxed<Expr>) -> Result<Stmt, Fault>
+    fn assigned(&self, tokens: &mut Cursor<'_>, expr: Boxed<Expr>) -> Result<Stmt, Failure>
         requires { N.nests self.now.rules.nested self.now.rules.turns self.now.rules.depth }
-        ensures { Reads stmt_view (nested spec.assigned self.now.rules.turns self.now.rules.depth (view expr) tokens.old) result tokens.new }
+        ensures { Parses stmt_view (nested spec.assigned self.now.rules.turns self.now.rules.depth (view expr) tokens.old) result tokens.new }
     {
         let Some(operator) = assignment_of(tokens.kind()) else {
             return Ok(Stmt::Expression(expr));
@@ -156,9 +156,9 @@ impl<N: Nested> Phrases<N> {
         connective: Connective,
         first: Boxed<Expr>,
         operands: Items<(BinaryOperator, Boxed<Expr>)>,
-    ) -> Result<Stmt, Fault>
+    ) -> Result<Stmt, Failure>
         requires { N.nests self.now.rules.nested self.now.rules.turns self.now.rules.depth }
-        ensures { Reads stmt_view (nested jumped self.now.rules.turns self.now.rules.depth connective (view first) (terms_view operands) tokens.old) result tokens.new }
+        ensures { Parses stmt_view (nested jumped self.now.rules.turns self.now.rules.depth connective (view first) (terms_view operands) tokens.old) result tokens.new }
     {
         let jump = self.leap(tokens)?;
         Ok(Stmt::Guard(connective, first, operands, jump))
@@ -169,9 +169,9 @@ impl<N: Nested> Phrases<N> {
         tokens: &mut Cursor<'_>,
         first: Boxed<Expr>,
         more: Guarded,
-    ) -> Result<Stmt, Fault>
+    ) -> Result<Stmt, Failure>
         requires { N.nests self.now.rules.nested self.now.rules.turns self.now.rules.depth }
-        ensures { Reads stmt_view (nested spec.or_guarded self.now.rules.turns self.now.rules.depth (view first) (guarded_view more) tokens.old) result tokens.new }
+        ensures { Parses stmt_view (nested spec.or_guarded self.now.rules.turns self.now.rules.depth (view first) (guarded_view more) tokens.old) result tokens.new }
     {
         let Guarded { operands, jumps } = more;
         if jumps {
@@ -187,9 +187,9 @@ impl<N: Nested> Phrases<N> {
         tokens: &mut Cursor<'_>,
         first: Boxed<Expr>,
         more: Guarded,
-    ) -> Result<Stmt, Fault>
+    ) -> Result<Stmt, Failure>
         requires { N.nests self.now.rules.nested self.now.rules.turns self.now.rules.depth }
-        ensures { Reads stmt_view (nested spec.and_guarded self.now.rules.turns self.now.rules.depth (view first) (guarded_view more) tokens.old) result tokens.new }
+        ensures { Parses stmt_view (nested spec.and_guarded self.now.rules.turns self.now.rules.depth (view first) (guarded_view more) tokens.old) result tokens.new }
     {
         let Guarded { operands, jumps } = more;
         if jumps {
@@ -200,34 +200,34 @@ impl<N: Nested> Phrases<N> {
         self.or_guarded(tokens, chain, others)
     }
 
-    fn plain_step(&self, tokens: &mut Cursor<'_>) -> Result<Stmt, Fault>
+    fn plain_step(&self, tokens: &mut Cursor<'_>) -> Result<Stmt, Failure>
         requires { N.nests self.now.rules.nested self.now.rules.turns self.now.rules.depth }
-        ensures { Reads stmt_view (nested spec.plain_step self.now.rules.turns self.now.rules.depth tokens.old) result tokens.new }
+        ensures { Parses stmt_view (nested spec.plain_step self.now.rules.turns self.now.rules.depth tokens.old) result tokens.new }
     {
         let first = self.rules.chain(tokens, Class::Comparison)?;
         let more = self.rules.guarded(tokens, Connective::And)?;
         self.and_guarded(tokens, first, more)
     }
 
-    fn jump_step(&self, tokens: &mut Cursor<'_>) -> Result<Stmt, Fault>
+    fn jump_step(&self, tokens: &mut Cursor<'_>) -> Result<Stmt, Failure>
         requires { N.nests self.now.rules.nested self.now.rules.turns self.now.rules.depth }
-        ensures { Reads stmt_view (nested jump_step self.now.rules.turns self.now.rules.depth tokens.old) result tokens.new }
+        ensures { Parses stmt_view (nested jump_step self.now.rules.turns self.now.rules.depth tokens.old) result tokens.new }
     {
         Ok(Stmt::Jump(self.leap(tokens)?))
     }
 
-    fn whole_step(&self, tokens: &mut Cursor<'_>) -> Result<Stmt, Fault>
+    fn whole_step(&self, tokens: &mut Cursor<'_>) -> Result<Stmt, Failure>
         requires { N.nests self.now.rules.nested self.now.rules.turns self.now.rules.depth }
-        ensures { Reads stmt_view (nested whole_step self.now.rules.turns self.now.rules.depth tokens.old) result tokens.new }
+        ensures { Parses stmt_view (nested whole_step self.now.rules.turns self.now.rules.depth tokens.old) result tokens.new }
     {
         Ok(Stmt::Expression(self.whole(tokens)?))
     }
 
     /// A statement.
     #[tactic(auto, unfolding(jt_grammar::specs::Reader::stepped))]
-    pub(crate) fn stepped(&self, tokens: &mut Cursor<'_>) -> Result<Stmt, Fault>
+    pub(crate) fn stepped(&self, tokens: &mut Cursor<'_>) -> Result<Stmt, Failure>
         requires { N.nests self.now.rules.nested self.now.rules.turns self.now.rules.depth }
-        ensures { Reads stmt_view (nested spec.stepped self.now.rules.turns self.now.rules.depth tokens.old) result tokens.new }
+        ensures { Parses stmt_view (nested spec.stepped self.now.rules.turns self.now.rules.depth tokens.old) result tokens.new }
     {
         match tokens.kind() {
             Kind::Sign(Sign::Return | Sign::Break | Sign::Continue) => self.jump_step(tokens),

@@ -4,11 +4,11 @@ ghost use Rattle.std.specs.Prelude.{◌≡◌, option_map};
 ghost use Rattle.jt_grammar.specs.Reader as spec;
 ghost use Rattle.jt_syntax.specs.View.{view};
 ghost use Rattle.jt_expressions.specs.Nested.{nested};
-ghost use Rattle.jt_cursor.specs.Reads.{Reads, same};
+ghost use Rattle.jt_cursor.specs.Parses.{Parses, same};
 ghost use Rattle.jt_statements.specs.Ranges.{range_parts, range_view};
 
 use crate::phrases::Phrases;
-use jt_cursor::{Cursor, Fault, Kind, is_spelled};
+use jt_cursor::{Cursor, Failure, Kind, is_spelled};
 use jt_expressions::Nested;
 use jt_grammar::Level;
 use jt_syntax::{Expr, Identifier, Pool, Schedule, Sign, Stmt};
@@ -66,8 +66,8 @@ fn range_loop_of(expr: Boxed<Expr>) -> Option<RangeLoop>
 }
 
 impl<N: Nested> Phrases<N> {
-    fn pool_named(&self, tokens: &mut Cursor<'_>, name: &[u8]) -> Result<Option<Pool>, Fault>
-        ensures { Reads same (nested spec.pool_named self.now.rules.turns self.now.rules.depth name.now tokens.old) result tokens.new }
+    fn pool_named(&self, tokens: &mut Cursor<'_>, name: &[u8]) -> Result<Option<Pool>, Failure>
+        ensures { Parses same (nested spec.pool_named self.now.rules.turns self.now.rules.depth name.now tokens.old) result tokens.new }
     {
         if is_spelled(name, b"default") {
             tokens.skip()?;
@@ -81,8 +81,8 @@ impl<N: Nested> Phrases<N> {
     }
 
     #[tactic(auto, unfolding(jt_grammar::specs::Reader::pool))]
-    fn pool(&self, tokens: &mut Cursor<'_>) -> Result<Option<Pool>, Fault>
-        ensures { Reads same (nested spec.pool self.now.rules.turns self.now.rules.depth tokens.old) result tokens.new }
+    fn pool(&self, tokens: &mut Cursor<'_>) -> Result<Option<Pool>, Failure>
+        ensures { Parses same (nested spec.pool self.now.rules.turns self.now.rules.depth tokens.old) result tokens.new }
     {
         if !tokens.sees(Sign::Colon) {
             return Ok(None);
@@ -100,8 +100,8 @@ impl<N: Nested> Phrases<N> {
         &self,
         tokens: &mut Cursor<'_>,
         name: &[u8],
-    ) -> Result<Option<Schedule>, Fault>
-        ensures { Reads same (nested spec.schedule_named self.now.rules.turns self.now.rules.depth name.now tokens.old) result tokens.new }
+    ) -> Result<Option<Schedule>, Failure>
+        ensures { Parses same (nested spec.schedule_named self.now.rules.turns self.now.rules.depth name.now tokens.old) result tokens.new }
     {
         if is_spelled(name, b"static") {
             tokens.skip()?;
@@ -115,8 +115,8 @@ impl<N: Nested> Phrases<N> {
     }
 
     #[tactic(auto, unfolding(jt_grammar::specs::Reader::schedule))]
-    fn schedule(&self, tokens: &mut Cursor<'_>) -> Result<Option<Schedule>, Fault>
-        ensures { Reads same (nested spec.schedule self.now.rules.turns self.now.rules.depth tokens.old) result tokens.new }
+    fn schedule(&self, tokens: &mut Cursor<'_>) -> Result<Option<Schedule>, Failure>
+        ensures { Parses same (nested spec.schedule self.now.rules.turns self.now.rules.depth tokens.old) result tokens.new }
     {
         if !tokens.sees(Sign::Colon) {
             return Ok(None);
@@ -130,9 +130,9 @@ impl<N: Nested> Phrases<N> {
         }
     }
 
-    pub(crate) fn spawned(&self, tokens: &mut Cursor<'_>) -> Result<Boxed<Expr>, Fault>
+    pub(crate) fn spawned(&self, tokens: &mut Cursor<'_>) -> Result<Boxed<Expr>, Failure>
         requires { N.nests self.now.rules.nested self.now.rules.turns self.now.rules.depth }
-        ensures { Reads view (nested spec.spawned self.now.rules.turns self.now.rules.depth tokens.old) result tokens.new }
+        ensures { Parses view (nested spec.spawned self.now.rules.turns self.now.rules.depth tokens.old) result tokens.new }
     {
         let word = tokens.opening(self.rules.depth, Sign::Spawn)?;
         let pool = self.pool(tokens)?;
@@ -140,18 +140,18 @@ impl<N: Nested> Phrases<N> {
         Ok(Boxed::new(self.rules.alloc, Expr::Spawn(word.at, pool, body))?)
     }
 
-    pub(crate) fn async_spawned(&self, tokens: &mut Cursor<'_>) -> Result<Boxed<Expr>, Fault>
+    pub(crate) fn async_spawned(&self, tokens: &mut Cursor<'_>) -> Result<Boxed<Expr>, Failure>
         requires { N.nests self.now.rules.nested self.now.rules.turns self.now.rules.depth }
-        ensures { Reads view (nested spec.async_spawned self.now.rules.turns self.now.rules.depth tokens.old) result tokens.new }
+        ensures { Parses view (nested spec.async_spawned self.now.rules.turns self.now.rules.depth tokens.old) result tokens.new }
     {
         let word = tokens.opening(self.rules.depth, Sign::Async)?;
         let body = self.rules.inner(tokens, Level::Whole)?;
         Ok(Boxed::new(self.rules.alloc, Expr::Async(word.at, body))?)
     }
 
-    pub(crate) fn awaited(&self, tokens: &mut Cursor<'_>) -> Result<Boxed<Expr>, Fault>
+    pub(crate) fn awaited(&self, tokens: &mut Cursor<'_>) -> Result<Boxed<Expr>, Failure>
         requires { N.nests self.now.rules.nested self.now.rules.turns self.now.rules.depth }
-        ensures { Reads view (nested spec.awaited self.now.rules.turns self.now.rules.depth tokens.old) result tokens.new }
+        ensures { Parses view (nested spec.awaited self.now.rules.turns self.now.rules.depth tokens.old) result tokens.new }
     {
         tokens.opening(self.rules.depth, Sign::Sync)?;
         let body = self.rules.inner(tokens, Level::Whole)?;
@@ -166,8 +166,8 @@ impl<N: Nested> Phrases<N> {
         at: u32,
         schedule: Option<Schedule>,
         range_loop: Boxed<Expr>,
-    ) -> Result<Boxed<Expr>, Fault>
-        ensures { Reads view (nested spec.threads_of self.now.rules.turns self.now.rules.depth at schedule (view range_loop) tokens.old) result tokens.new }
+    ) -> Result<Boxed<Expr>, Failure>
+        ensures { Parses view (nested spec.threads_of self.now.rules.turns self.now.rules.depth at schedule (view range_loop) tokens.old) result tokens.new }
     {
         let Some(parts) = range_loop_of(range_loop) else {
             return Err(tokens.refuse());
@@ -182,9 +182,9 @@ impl<N: Nested> Phrases<N> {
         Ok(Boxed::new(self.rules.alloc, threads)?)
     }
 
-    pub(crate) fn threaded(&self, tokens: &mut Cursor<'_>) -> Result<Boxed<Expr>, Fault>
+    pub(crate) fn threaded(&self, tokens: &mut Cursor<'_>) -> Result<Boxed<Expr>, Failure>
         requires { N.nests self.now.rules.nested self.now.rules.turns self.now.rules.depth }
-        ensures { Reads view (nested spec.threaded self.now.rules.turns self.now.rules.depth tokens.old) result tokens.new }
+        ensures { Parses view (nested spec.threaded self.now.rules.turns self.now.rules.depth tokens.old) result tokens.new }
     {
         let word = tokens.opening(self.rules.depth, Sign::Threads)?;
         let schedule = self.schedule(tokens)?;

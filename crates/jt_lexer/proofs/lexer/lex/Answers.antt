@@ -3,7 +3,7 @@ use Rattle.std.proofs.lemmas.List.{take_rest}
 use Rattle.jt_lexer.specs.Pieces.{piece}
 use Rattle.jt_lexer.proofs.Whole.{found_whole}
 use Rattle.jt_lexer.proofs.LexLemmas.{begins, goes, stays}
-use Rattle.jt_lexer.proofs.TokenLaws.{found_none, found_more, found_fault}
+use Rattle.jt_lexer.proofs.TokenLaws.{found_none, found_more, found_defect}
 use Rattle.jt_lexer.proofs.lexer.lex.Goals as goal
 
 pub loop-at-init : goal.loop-at-init
@@ -28,8 +28,8 @@ returns-in-Err-clause-refused c =
     let at = c.loop-at.at in
     let bytes = c.as_bytes-bytes.result.now in
     let rest = take (length bytes - at) (drop at bytes) in
-    let is : piece rest ≡ Err c.in-Err.fault = sym c.piece.ensures.value ∙ c.in-Err.is in
-    found_fault c.args.text.now bytes rest at c.loop-at.tokens.items c.in-Err.fault c.refusal.result c.loop-at.invariant.3 c.loop-at.invariant.2 (take_rest bytes at) c.loop-at-test.true is c.refusal.ensures
+    let is : piece rest ≡ Err c.in-Err.defect = sym c.piece.ensures.value ∙ c.in-Err.is in
+    found_defect c.args.text.now bytes rest at c.loop-at.tokens.items c.in-Err.defect c.refusal.result c.loop-at.invariant.3 c.loop-at.invariant.2 (take_rest bytes at) c.loop-at-test.true is c.refusal.ensures
 
 pub returns-clause-whole : goal.returns-clause-whole
 returns-clause-whole c =

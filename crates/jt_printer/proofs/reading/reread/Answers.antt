@@ -1,7 +1,7 @@
 use Rattle.std.proofs.Common.{ℕ, List, IfOk, sym, subst, ◌∙◌}
+use Rattle.jt_base.specs.Limits.{most_open}
 use Rattle.jt_syntax.specs.View.{script_view}
-use Rattle.jt_printer.specs.Again.{ReadsAs, Gives}
-use Rattle.jt_printer.specs.Reread.{most_open}
+use Rattle.jt_printer.specs.Again.{ReadsAs, ReadsExactly}
 use Rattle.jt_printer.proofs.Whole.{refusal_told}
 use Rattle.jt_printer.proofs.reading.reread.Goals as goal
 
@@ -12,7 +12,7 @@ returns-clause-again c = λ r.
 
 pub returns-clause-found : goal.returns-clause-found
 returns-clause-found c =
-    let P : List ℕ → Type 0 = λ z. IfOk c.read_bytes.result (λ found. Gives most_open z (script_view found)) in
+    let P : List ℕ → Type 0 = λ z. IfOk c.read_bytes.result (λ found. ReadsExactly most_open z (script_view found)) in
     subst P (c.as_slice.ensures.value ∙ c.in-Ok.ensures.text) c.read_bytes.ensures.found
 
 pub returns-clause-refused : goal.returns-clause-refused

@@ -4,7 +4,7 @@ use Rattle.jt_grammar.specs.Reader.{guarded_from}
 use Rattle.jt_expressions.specs.Chains.{tighter_than}
 use Rattle.jt_expressions.specs.Guards.{guarded_view}
 use Rattle.jt_expressions.specs.Nested.{nested}
-use Rattle.jt_cursor.specs.Reads.{Reads}
+use Rattle.jt_cursor.specs.Parses.{Parses}
 use Rattle.jt_expressions.proofs.Chains.{guarded_start}
 use Rattle.jt_expressions.proofs.rules.Rules.guarded.Goals as goal
 
@@ -13,5 +13,5 @@ returns g c =
     let t = c.args.self.now.turns in
     let d = c.args.self.now.depth in
     let k = connective_class c.args.connective in
-    subst (λ o. Reads guarded_view o c.guarded_by.result c.guarded_by.new.tokens) (guarded_start k (nested tighter_than t d k) t c.args.tokens.now)
-    (subst (λ z. Reads guarded_view (guarded_from z (nested tighter_than t d z) t [] c.args.tokens.now) c.guarded_by.result c.guarded_by.new.tokens) c.class.ensures c.guarded_by.ensures)
+    subst (λ o. Parses guarded_view o c.guarded_by.result c.guarded_by.new.tokens) (guarded_start k (nested tighter_than t d k) t c.args.tokens.now)
+    (subst (λ z. Parses guarded_view (guarded_from z (nested tighter_than t d z) t [] c.args.tokens.now) c.guarded_by.result c.guarded_by.new.tokens) c.class.ensures c.guarded_by.ensures)
