@@ -15,10 +15,10 @@ use Rattle.jt_step.specs.declared.frame.Frame.TheVariants as frame
 use Rattle.jt_step.specs.declared.machine.Machine.{Machine}
 use Rattle.jt_step.specs.declared.mode.Mode.{Mode}
 use Rattle.jt_step.specs.declared.mode.Mode.TheVariants as mode
-use Rattle.jt_step.specs.declared.start.Start.{Start}
-use Rattle.jt_step.specs.State.{State, Asks, Unfit, Given, given, answered}
-use Rattle.jt_step.specs.State as state
-use Rattle.jt_step.specs.Meaning.{ended, whole}
+use Rattle.jt_meaning.specs.declared.start.Start.{Start}
+use Rattle.jt_meaning.specs.State.{State, Asks, Unfit, Given, given, answered}
+use Rattle.jt_meaning.specs.State as state
+use Rattle.jt_meaning.specs.Meaning.{ended, whole}
 use Rattle.jt_step.specs.Stack.{after, through, resume, state_of, at, doing, waits, taken, given_mode, over_by, begun_by, unused}
 use Rattle.jt_step.specs.Agrees.{goes}
 

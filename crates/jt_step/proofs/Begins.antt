@@ -5,6 +5,7 @@ use Rattle.std.proofs.lemmas.Bool.{lt-ltb}
 use Rattle.jt_base.specs.declared.value.Value.{Value}
 use Rattle.jt_base.specs.declared.operation.Reply.{Reply}
 use Rattle.jt_base.specs.declared.operation.Fault.TheVariants.{TurnLimit}
+use Rattle.jt_base.specs.Limits.{most_calls}
 use Rattle.jt_program.specs.declared.code.Code.{Code}
 use Rattle.jt_program.specs.Plan.{BodyPlan, ProgramPlan}
 use Rattle.jt_program.specs.View.{plan_of}
@@ -13,8 +14,8 @@ use Rattle.jt_step.specs.declared.frame.Loop.{Loop}
 use Rattle.jt_step.specs.declared.frame.Loop.TheVariants as loop
 use Rattle.jt_step.specs.declared.machine.Machine.{Machine}
 use Rattle.jt_step.specs.declared.mode.Mode.TheVariants as mode
-use Rattle.jt_step.specs.State.{State, Step, Faulted, turn_with, enter_with, most_calls}
-use Rattle.jt_step.specs.Meaning.{ended, go, left, looped, call, variables_of, whole}
+use Rattle.jt_meaning.specs.State.{State, Step, Faulted, turn_with, enter_with}
+use Rattle.jt_meaning.specs.Meaning.{ended, go, left, looped, call, variables_of, whole}
 use Rattle.jt_step.specs.Stack.{refusal, rests, Follows, through, resume, does, later_of, again, state_of, begins, has_body, Turns}
 use Rattle.jt_step.specs.Task.{body_in, turned}
 use Rattle.jt_step.specs.Agrees.{goes}

@@ -6,9 +6,9 @@ use Rattle.jt_base.specs.Names.{most_indexes}
 use Rattle.jt_program.specs.Plan.{BodyPlan, ProgramPlan}
 use Rattle.jt_step.specs.declared.machine.Machine.{Machine}
 use Rattle.jt_step.specs.declared.mode.Mode.{Mode}
-use Rattle.jt_step.specs.declared.start.Start.{Start}
-use Rattle.jt_step.specs.State.{State, Faulted}
-use Rattle.jt_step.specs.Meaning.{child_start, either, fork, fork_with, values_known, values_taken}
+use Rattle.jt_meaning.specs.declared.start.Start.{Start}
+use Rattle.jt_meaning.specs.State.{State, Faulted}
+use Rattle.jt_meaning.specs.Meaning.{child_start, either, fork, fork_with, values_known, values_taken}
 use Rattle.jt_step.specs.Moves.{Does}
 use Rattle.jt_step.specs.Stack.{resume, state_of}
 

@@ -13,9 +13,9 @@ use Rattle.jt_program.specs.Plan.{Plan, ProgramPlan}
 use Rattle.jt_program.specs.View.{plan_of, plans}
 use Rattle.jt_base.specs.declared.operation.Reply.{Reply}
 use Rattle.jt_step.specs.declared.machine.Machine.{Machine}
-use Rattle.jt_step.specs.Meaning.{go, run_arguments}
-use Rattle.jt_step.specs.Values.{operated, compared_by}
-use Rattle.jt_step.specs.State.{State, Gave, Faulted}
+use Rattle.jt_meaning.specs.Meaning.{go, run_arguments}
+use Rattle.jt_meaning.specs.Values.{operated, compared_by}
+use Rattle.jt_meaning.specs.State.{State, Gave, Faulted}
 use Rattle.jt_step.specs.Stack.{does, does_operands, does_comparisons, operands_in, comparisons_in, operands_weight, comparisons_weight, plans_weight, state_of}
 
 -- fewer are left behind the first one

@@ -3,6 +3,7 @@ pub mod Resumes
 pub mod Plans
 pub mod Moves
 pub mod Known
+pub mod AtOnce
 pub mod Loops
 pub mod Lines
 pub mod Utf8
@@ -14,5 +15,5 @@ pub mod Starts
 pub mod Syncs
 pub mod Forks
 pub mod Notes
-mod Examples
+pub mod Sent
 mod SerialExamples

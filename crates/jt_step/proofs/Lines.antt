@@ -1,6 +1,6 @@
 -- A line that is being put together.
 use Rattle.std.proofs.Common.{◌≡◌, ℕ, List, Option, Some, None, refl}
-use Rattle.jt_step.specs.Values.{shown_with}
+use Rattle.jt_meaning.specs.Values.{shown_with}
 
 -- what has no text leaves none
 pub unshown : (line : Option (List ℕ)) → None ≡ shown_with line None

@@ -15,9 +15,9 @@ use Rattle.jt_step.specs.declared.frame.Loop.{Loop}
 use Rattle.jt_step.specs.declared.frame.Loop.TheVariants as loop
 use Rattle.jt_step.specs.declared.machine.Machine.{Machine}
 use Rattle.jt_step.specs.declared.mode.Mode.TheVariants as mode
-use Rattle.jt_step.specs.Meaning.{go, whole, range, either, turns_from}
+use Rattle.jt_meaning.specs.Meaning.{go, whole, range, either, turns_from}
 use Rattle.jt_step.specs.Moves.{range_mode, turn_mode, bounds_mode}
-use Rattle.jt_step.specs.State.{State, Gave, Faulted}
+use Rattle.jt_meaning.specs.State.{State, Gave, Faulted}
 use Rattle.jt_step.specs.Stack.{again, after, doing, resume, does, state_of, later_of, mode_weight, Hands}
 use Rattle.jt_step.specs.Agrees.{goes}
 use Rattle.jt_step.proofs.Moves.{gives_fault}

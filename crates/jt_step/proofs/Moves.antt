@@ -13,8 +13,8 @@ use Rattle.jt_step.specs.declared.frame.Frame.{Frame}
 use Rattle.jt_step.specs.declared.machine.Machine.{Machine}
 use Rattle.jt_step.specs.declared.mode.Mode.{Mode}
 use Rattle.jt_step.specs.declared.mode.Mode.TheVariants as mode
-use Rattle.jt_step.specs.State.{State, Out, Step, Gave, Returned, Broke, Continued, Faulted, Asks, Unfit, bind}
-use Rattle.jt_step.specs.Meaning.{go, run_all, run_arguments}
+use Rattle.jt_meaning.specs.State.{State, Out, Step, Gave, Returned, Broke, Continued, Faulted, Asks, Unfit, bind}
+use Rattle.jt_meaning.specs.Meaning.{go, run_all, run_arguments}
 use Rattle.jt_step.specs.Moves.{Does}
 use Rattle.jt_step.specs.Stack.{after, resume, does, state_of, weight, plans_weight, frame_weight, frames_weight, Follows, Hands}
 use Rattle.jt_step.proofs.Weights.{weight_push, frame_least}

@@ -5,8 +5,8 @@ use Rattle.jt_program.specs.Plan.{ProgramPlan}
 use Rattle.jt_step.specs.declared.frame.Frame.{Frame}
 use Rattle.jt_step.specs.declared.machine.Machine.{Machine}
 use Rattle.jt_step.specs.declared.mode.Mode.{Mode}
-use Rattle.jt_step.specs.State.{Out, State, Step}
-use Rattle.jt_step.specs.Meaning.{ended}
+use Rattle.jt_meaning.specs.State.{Out, State, Step}
+use Rattle.jt_meaning.specs.Meaning.{ended}
 use Rattle.jt_step.specs.Stack.{after, through, resume, state_of, mode_weight, doing, Follows, Hands}
 use Rattle.jt_step.proofs.Weights.{weight_push}
 

@@ -2,7 +2,6 @@
 use Rattle.std.proofs.Common.{◌≡◌, ℕ, List, [], ◌∷◌, Option, Some, None, false, true, refl, replicate}
 use Rattle.std.specs.Prelude.{pos, codes}
 use Rattle.std.specs.Fmt.{digits}
-use Rattle.std.specs.List.{list_any}
 use Rattle.jt_base.specs.declared.operation.Fault.TheVariants.{Method, TaskFailed}
 use Rattle.jt_base.specs.declared.operation.Op.TheVariants.{End, Fail}
 use Rattle.jt_base.specs.declared.run.Seeds.{Seeds}
@@ -12,9 +11,9 @@ use Rattle.jt_program.specs.declared.code.Callee.TheVariants as callee
 use Rattle.jt_program.specs.declared.code.Literal.TheVariants as literal
 use Rattle.jt_program.specs.Plan.{Plan, Plans, BodyPlan, ProgramPlan}
 use Rattle.jt_program.specs.Plan as plan
-use Rattle.jt_step.specs.Meaning.{meaning, go}
-use Rattle.jt_step.specs.Serial.{IsForkJoin, Done, serial_run, some_part, is_yield}
-use Rattle.jt_step.specs.Tasks.{Run}
+use Rattle.jt_meaning.specs.Meaning.{meaning, go}
+use Rattle.jt_step.specs.Serial.{IsForkJoin, Done, serial_run, some_other, forks_and_joins, forks_joins_or_prints}
+use Rattle.jt_meaning.specs.Run.{Run}
 
 abbrev number : ℕ → Plan
 number n = plan.literal (literal.Int (pos n))
@@ -46,7 +45,7 @@ abbrev asks_seven : List BodyPlan
 asks_seven = body 1 (plan.assign 0 (plan.spawn 1 [] false) ∷ show (fetch (plan.variable 0)) ∷ plan.literal literal.Nothing ∷ []) ∷ body 0 (number 7 ∷ []) ∷ []
 
 seven_is_fork_join : IsForkJoin (program asks_seven)
-seven_is_fork_join = record { no_yield = refl; main_prints = refl }
+seven_is_fork_join = record { bodies = refl; main = refl }
 
 seven : serial_run 10 (run_of asks_seven) seeds ≡ Some (record { last = End Nothing; kept = record { results = (0 ∷ [], End (Int (pos 7))) ∷ []; lines = codes "7\n" } })
 unfolding go meaning digits
@@ -77,6 +76,12 @@ inner_first : serial_run 10 (run_of nested) seeds ≡ Some (record { last = End 
 unfolding go meaning
 inner_first = refl
 
--- a task that yields is none of a fork-join program
-yields : list_any (λ (b : BodyPlan). some_part is_yield b.code) (body 0 (plan.call (callee.BuiltIn built_in.Yield) plan.no_plans ∷ []) ∷ []) ≡ true
+-- a task that yields, one that prints, and one that makes a task of main's body are none of a fork-join program
+yields : some_other forks_and_joins (body 0 (plan.call (callee.BuiltIn built_in.Yield) plan.no_plans ∷ []) ∷ []) ≡ true
 yields = refl
+
+prints : some_other forks_and_joins (body 0 (show (number 7) ∷ []) ∷ []) ≡ true
+prints = refl
+
+makes_main : some_other forks_joins_or_prints (body 0 (plan.spawn 0 [] false ∷ []) ∷ []) ≡ true
+makes_main = refl

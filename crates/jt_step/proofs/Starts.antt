@@ -17,11 +17,12 @@ use Rattle.jt_program.specs.Plan.{BodyPlan, ProgramPlan}
 use Rattle.jt_program.specs.View.{plan_of}
 use Rattle.jt_step.specs.declared.machine.Machine.{Machine}
 use Rattle.jt_step.specs.declared.mode.Mode.TheVariants as mode
-use Rattle.jt_step.specs.declared.start.Start.{Start}
-use Rattle.jt_step.specs.State.{State, ask, bind}
-use Rattle.jt_step.specs.Meaning.{beginning, task, task_of, variables_of, ended, go, whole}
+use Rattle.jt_meaning.specs.declared.start.Start.{Start}
+use Rattle.jt_meaning.specs.State.{State, ask, bind}
+use Rattle.jt_meaning.specs.Meaning.{beginning, task, task_of, variables_of, ended, go, whole}
 use Rattle.jt_step.specs.Stack.{at, state_of, doing, unused}
-use Rattle.jt_step.specs.Tasks.{Run, Task, new_task, seat_at, seat_by_how}
+use Rattle.jt_meaning.specs.Run.{Run}
+use Rattle.jt_step.specs.Tasks.{Task, new_task, seat_at, seat_by_how}
 
 pub not_main : (path : List ℕ) → nat_eq (length path) 0 ≡ false → is_main path ≡ false
 not_main [] h = h

@@ -21,9 +21,9 @@ use Rattle.jt_step.specs.declared.frame.Waits.{Waits}
 use Rattle.jt_step.specs.declared.machine.Machine.{Machine}
 use Rattle.jt_step.specs.declared.mode.Mode.{Mode}
 use Rattle.jt_step.specs.declared.mode.Mode.TheVariants as mode
-use Rattle.jt_step.specs.State.{State, ask}
-use Rattle.jt_step.specs.Values.{Valued, applied}
-use Rattle.jt_step.specs.Meaning.{awaiting, call_built_in, gives, go, noticed, run_arguments, synced, unless_failed, wait_all}
+use Rattle.jt_meaning.specs.State.{State, ask}
+use Rattle.jt_meaning.specs.Values.{Valued, applied}
+use Rattle.jt_meaning.specs.Meaning.{awaiting, call_built_in, gives, go, noticed, run_arguments, synced, unless_failed, wait_all}
 use Rattle.jt_step.specs.Moves.{Does, built_in_mode, left_mode, valued_mode}
 use Rattle.jt_step.specs.Stack.{does, doing, exits, mode_weight, plans_weight, resume, state_of, weight}
 use Rattle.jt_step.proofs.Resumes.{through_push}

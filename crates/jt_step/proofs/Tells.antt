@@ -8,6 +8,7 @@ use Rattle.jt_base.specs.declared.operation.Reply.{Reply}
 use Rattle.jt_base.specs.declared.value.Value.{Value}
 use Rattle.jt_base.specs.Coming.{Next, Over, op_of}
 use Rattle.jt_base.specs.Jobs.{note_reply}
+use Rattle.jt_base.specs.Limits.{most_calls}
 use Rattle.jt_program.specs.Plan.{Plan, BodyPlan, ProgramPlan}
 use Rattle.jt_program.specs.View.{plan_of, plans}
 use Rattle.jt_step.specs.declared.frame.Frame.{Frame}
@@ -19,12 +20,12 @@ use Rattle.jt_step.specs.declared.frame.Loop.TheVariants as loop
 use Rattle.jt_step.specs.declared.machine.Machine.{Machine}
 use Rattle.jt_step.specs.declared.mode.Mode.{Mode}
 use Rattle.jt_step.specs.declared.mode.Mode.TheVariants as mode
-use Rattle.jt_step.specs.declared.start.Start.{Start}
+use Rattle.jt_meaning.specs.declared.start.Start.{Start}
 use Rattle.jt_step.specs.declared.task.Advance.{Advance}
-use Rattle.jt_step.specs.State.{Out, State, Step, Asks, turns_of, turn_with, enter_with, most_calls}
-use Rattle.jt_step.specs.Values.{operated, unary_of, compared_by, shown, shown_with}
-use Rattle.jt_step.specs.Meaning.{ended, gives, go, looped, call, variables_of, unless_failed, wait_all, whole}
-use Rattle.jt_step.specs.Next.{next_of, over_with}
+use Rattle.jt_meaning.specs.State.{Out, State, Step, Asks, turns_of, turn_with, enter_with}
+use Rattle.jt_meaning.specs.Values.{operated, unary_of, compared_by, shown, shown_with}
+use Rattle.jt_meaning.specs.Meaning.{ended, gives, go, looped, call, variables_of, unless_failed, wait_all, whole}
+use Rattle.jt_meaning.specs.Next.{next_of, over_with}
 use Rattle.jt_step.specs.Stack.{after, exits, through, resume, state_of, at, does, again, later_of, calls, has_body, operands_in, comparisons_in, choices_in, pieces_in, waits, begins, rests, unused, Runs}
 use Rattle.jt_step.specs.Task.{mode_tells, body_in, turned}
 use Rattle.jt_step.specs.Tasks.{Task, Says, told, out_of, coming}

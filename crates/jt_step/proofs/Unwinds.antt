@@ -7,7 +7,7 @@ use Rattle.jt_step.specs.declared.frame.Frame.{Frame}
 use Rattle.jt_step.specs.declared.frame.Frame.TheVariants as frame
 use Rattle.jt_step.specs.declared.frame.Loop.{Loop}
 use Rattle.jt_step.specs.declared.frame.Waits.{Waits}
-use Rattle.jt_step.specs.State.{State, Returned, Broke, Continued, Faulted}
+use Rattle.jt_meaning.specs.State.{State, Returned, Broke, Continued, Faulted}
 use Rattle.jt_step.specs.Stack.{after}
 
 module _ (program : ProgramPlan) where

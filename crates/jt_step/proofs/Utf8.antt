@@ -5,7 +5,7 @@ use Rattle.std.proofs.lemmas.Str.{utf8_valid_len-IsUtf8}
 use Rattle.std.specs.Prelude.{IsUtf8}
 use Rattle.std.specs.Str.{IsValidUpTo}
 use Rattle.std.specs.Str.Lossy.{utf8_valid_len}
-use Rattle.jt_step.specs.Values.{is_utf8, text_of}
+use Rattle.jt_meaning.specs.Values.{is_utf8, text_of}
 
 pub is_utf8-valid : (bytes : List ℕ) → IsUtf8 bytes → is_utf8 bytes ≡ true
 unfolding is_utf8

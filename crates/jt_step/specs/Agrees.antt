@@ -3,15 +3,16 @@ use Rattle.std.proofs.Common.{◌≡◌, ℕ, zero, suc, ◌+◌, ◌<◌, ◌�
 use Rattle.std.specs.Prelude.{ℤ, pos, ◌+ℤ◌, slice_get, nat_lt, int_le}
 use Rattle.jt_base.specs.declared.value.Value.{Value}
 use Rattle.jt_base.specs.declared.value.Value.TheVariants.{Int, Flag, Nothing, Task, Object}
+use Rattle.jt_base.specs.Limits.{most_calls}
 use Rattle.jt_syntax.specs.declared.operator.Connective.{Connective}
 use Rattle.jt_syntax.specs.declared.operator.Connective.TheVariants as connective
 use Rattle.jt_program.specs.declared.code.Callee.{Callee}
 use Rattle.jt_program.specs.declared.code.Callee.TheVariants as callee
 use Rattle.jt_program.specs.Plan.{Plan, Plans, Operands, Comparisons, Choices, Pieces, BodyPlan, ProgramPlan}
 use Rattle.jt_program.specs.Plan as plan
-use Rattle.jt_step.specs.State.{State, Out, Gave, Returned, Broke, Continued, Faulted, Asks, Unfit, Step, turns_of, bind, turn_with, enter_with, most_calls, renew, renew_with}
-use Rattle.jt_step.specs.Values.{operated, compared_by, shown, shown_with, text_of}
-use Rattle.jt_step.specs.Meaning.{gives, test, proceed, holds, looped, left, variables_of, awaiting, synced, Later, whole, range, either, bounds, turns_from, call, call_of, run, run_operands, run_comparisons, run_connection, run_choices, run_all, run_arguments, run_pieces, later, meaning, go}
+use Rattle.jt_meaning.specs.State.{State, Out, Gave, Returned, Broke, Continued, Faulted, Asks, Unfit, Step, turns_of, bind, turn_with, enter_with, renew, renew_with}
+use Rattle.jt_meaning.specs.Values.{operated, compared_by, shown, shown_with, text_of}
+use Rattle.jt_meaning.specs.Meaning.{gives, test, proceed, holds, looped, left, variables_of, awaiting, synced, Later, whole, range, either, bounds, turns_from, call, call_of, run, run_operands, run_comparisons, run_connection, run_choices, run_all, run_arguments, run_pieces, later, meaning, go}
 use Rattle.jt_step.specs.Turns.{Falls, gives_falls, run_falls, meaning_falls}
 
 -- ---- what parts are put together by

@@ -14,6 +14,7 @@ use Rattle.jt_base.specs.declared.operation.Fault.{Fault}
 use Rattle.jt_base.specs.declared.operation.Reply.{Reply}
 use Rattle.jt_base.specs.Coming.{is_spawn}
 use Rattle.jt_base.specs.Names.{most_indexes}
+use Rattle.jt_base.specs.Limits.{most_calls}
 use Rattle.jt_laws.specs.Entries.{ends}
 use Rattle.jt_syntax.specs.declared.operator.Connective.{Connective}
 use Rattle.jt_syntax.specs.declared.operator.Connective.TheVariants as connective
@@ -23,12 +24,12 @@ use Rattle.jt_program.specs.declared.code.Callee.{Callee}
 use Rattle.jt_program.specs.declared.code.Callee.TheVariants as callee
 use Rattle.jt_program.specs.Plan.{Plan, Plans, Operands, Comparisons, Choices, Pieces, BodyPlan, ProgramPlan}
 use Rattle.jt_program.specs.Plan as plan
-use Rattle.jt_step.specs.declared.start.Start.{Start}
-use Rattle.jt_step.specs.State as state
-use Rattle.jt_step.specs.State.{State, Out, Gave, Returned, Broke, Continued, Faulted, Asks, Unfit, Step, turns_of, bind, Given, given, answered, ask, ask_with, turn, turn_with, enter, enter_with, most_calls, renew, renew_with}
-use Rattle.jt_step.specs.Values.{Valued, operated, unary_of, applied, compared_by, shown, shown_with, text_of}
-use Rattle.jt_step.specs.Meaning.{gives, known, test, proceed, holds, looped, left, variables_of, print_text, values_taken, values_known, child_start, await, fork_with, fork, first_fault, noticed, wait_all, unless_failed, awaiting, synced, Later, whole, range, either, bounds, turns_from, call, call_built_in, call_of, run, run_operands, run_comparisons, run_connection, run_choices, run_all, run_arguments, run_pieces, later, go}
-use Rattle.jt_step.specs.Next.{IsLater}
+use Rattle.jt_meaning.specs.declared.start.Start.{Start}
+use Rattle.jt_meaning.specs.State as state
+use Rattle.jt_meaning.specs.State.{State, Out, Gave, Returned, Broke, Continued, Faulted, Asks, Unfit, Step, turns_of, bind, Given, given, answered, ask, ask_with, turn, turn_with, enter, enter_with, renew, renew_with}
+use Rattle.jt_meaning.specs.Values.{Valued, operated, unary_of, applied, compared_by, shown, shown_with, text_of}
+use Rattle.jt_meaning.specs.Meaning.{gives, known, test, proceed, holds, looped, left, variables_of, print_text, values_taken, values_known, child_start, await, fork_with, fork, first_fault, noticed, wait_all, unless_failed, awaiting, synced, Later, whole, range, either, bounds, turns_from, call, call_built_in, call_of, run, run_operands, run_comparisons, run_connection, run_choices, run_all, run_arguments, run_pieces, later, go}
+use Rattle.jt_meaning.specs.Next.{IsLater}
 use Rattle.jt_step.specs.Turns.{Falls, gives_falls, run_falls, go_falls}
 use Rattle.jt_step.specs.Agrees.{goes}
 

@@ -11,11 +11,11 @@ use Rattle.jt_base.specs.Coming.{Next, Needs, Spawns, SpawnsChild, op_of, is_spa
 use Rattle.jt_laws.specs.Entries.{ends}
 use Rattle.jt_laws.specs.Replies.{can_reply}
 use Rattle.jt_program.specs.Plan.{BodyPlan, ProgramPlan}
-use Rattle.jt_step.specs.declared.start.Start.{Start}
-use Rattle.jt_step.specs.State as state
-use Rattle.jt_step.specs.State.{State, Out, Gave, Returned, Broke, Continued, Faulted, Asks, Unfit, bind, Given, given, answered, ask_with}
-use Rattle.jt_step.specs.Meaning.{variables_of, whole, go, ended, task_of, beginning, task}
-use Rattle.jt_step.specs.Next.{next_of, over_with, next_operation, IsLater}
+use Rattle.jt_meaning.specs.declared.start.Start.{Start}
+use Rattle.jt_meaning.specs.State as state
+use Rattle.jt_meaning.specs.State.{State, Out, Gave, Returned, Broke, Continued, Faulted, Asks, Unfit, bind, Given, given, answered, ask_with}
+use Rattle.jt_meaning.specs.Meaning.{variables_of, whole, go, ended, task_of, beginning, task}
+use Rattle.jt_meaning.specs.Next.{next_of, over_with, next_operation, IsLater}
 use Rattle.jt_step.specs.Tasks.{ComesAfter, IsTaskOp}
 use Rattle.jt_step.specs.Fine.{Reach, Fine, go_fine}
 use Rattle.jt_step.specs.Spawned.{Closed, OneMore, Made, made_by, one_more, closed_from}

@@ -1,10 +1,7 @@
-pub mod State
-pub mod Values
-pub mod Meaning
-pub mod Next
 pub mod Tasks
 pub mod Stack
 pub mod Moves
+pub mod AtOnce
 pub mod Task
 pub mod Codes
 pub mod Serial

@@ -16,8 +16,8 @@ use Rattle.jt_program.specs.declared.code.Piece.{Piece}
 use Rattle.jt_program.specs.Plan.{BodyPlan, ProgramPlan, Pieces}
 use Rattle.jt_program.specs.Plan as plan
 use Rattle.jt_program.specs.View.{plan_of}
-use Rattle.jt_step.specs.State.{Step}
-use Rattle.jt_step.specs.Values.{Valued, applied}
+use Rattle.jt_meaning.specs.State.{Step}
+use Rattle.jt_meaning.specs.Values.{Valued, applied}
 use Rattle.jt_step.specs.declared.frame.Exit.{Exit}
 use Rattle.jt_step.specs.declared.frame.Exit.TheVariants as exit
 use Rattle.jt_step.specs.Stack.{at, pieces_in, resume, state_of, work, frames_weight}

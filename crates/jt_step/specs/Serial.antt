@@ -1,6 +1,6 @@
 -- The serial elision of a fork-join program: each spawn does the child's whole task at once, as a call
 -- does, and keeps its result. There is no history and no order of tasks.
-use Rattle.std.specs.Prelude.{◌≡◌, ℕ, zero, suc, List, [], ◌∷◌, ◌++◌, Option, Some, None, Bool, true, false, ◌||◌, cond, drop}
+use Rattle.std.specs.Prelude.{◌≡◌, ℕ, zero, suc, List, [], ◌∷◌, ◌++◌, Option, Some, None, Bool, true, false, not, ◌||◌, cond, drop, take, nat_lt}
 use Rattle.std.specs.List.{list_any}
 use Rattle.jt_base.specs.declared.operation.Op.{Op}
 use Rattle.jt_base.specs.declared.operation.Op.TheVariants.{Begin, End, Fail, Spawn, Fetch, Wait, Print}
@@ -12,11 +12,13 @@ use Rattle.jt_laws.specs.Entries.{same_path}
 use Rattle.jt_laws.specs.Lines.{line_of}
 use Rattle.jt_laws.specs.Tasks.{fetch_of, wait_of}
 use Rattle.jt_program.specs.declared.code.BuiltIn.TheVariants as built_in
+use Rattle.jt_program.specs.declared.code.Callee.{Callee}
 use Rattle.jt_program.specs.declared.code.Callee.TheVariants as callee
 use Rattle.jt_program.specs.Plan.{Plan, Plans, Operands, Comparisons, Choices, Pieces, BodyPlan, ProgramPlan}
 use Rattle.jt_program.specs.Plan as plan
-use Rattle.jt_step.specs.declared.start.Start.{Start}
-use Rattle.jt_step.specs.Tasks.{Run, main_start, next_in}
+use Rattle.jt_meaning.specs.declared.start.Start.{Start}
+use Rattle.jt_meaning.specs.Run.{Run}
+use Rattle.jt_meaning.specs.Next.{main_start, next_in}
 
 -- ---- fork-join programs
 
@@ -66,19 +68,54 @@ abbrev mutual
   some_piece t (plan.value_piece e ps) = some_part t e || some_piece t ps
   some_piece t (plan.text_piece text ps) = some_piece t ps
 
-abbrev pub is_yield : Plan → Bool
-is_yield (plan.call (callee.BuiltIn built_in.Yield) es) = true
-is_yield e = false
+-- a function of the script, or one of the language by whose value no task sees an order of tasks
+abbrev pub joins : Callee → Bool
+joins (callee.Function f) = true
+joins (callee.BuiltIn built_in.Div) = true
+joins (callee.BuiltIn built_in.Rem) = true
+joins (callee.BuiltIn built_in.Mod) = true
+joins (callee.BuiltIn built_in.Fetch) = true
+joins (callee.BuiltIn built_in.Wait) = true
+joins f = false
 
-abbrev pub is_print : Plan → Bool
-is_print (plan.print ps) = true
-is_print e = false
+-- what a function or a task may have; no task is made of main's body
+abbrev pub forks_and_joins : Plan → Bool
+forks_and_joins (plan.literal l) = true
+forks_and_joins (plan.variable x) = true
+forks_and_joins (plan.constant k) = true
+forks_and_joins (plan.assign x e) = true
+forks_and_joins (plan.define k e) = true
+forks_and_joins (plan.unary o e) = true
+forks_and_joins (plan.operation e es) = true
+forks_and_joins (plan.comparison e es) = true
+forks_and_joins (plan.connection c e es) = true
+forks_and_joins (plan.branch cs e) = true
+forks_and_joins (plan.block es) = true
+forks_and_joins (plan.while first count c b) = true
+forks_and_joins (plan.for first count a b e) = true
+forks_and_joins (plan.call f es) = joins f
+forks_and_joins (plan.error text) = true
+forks_and_joins (plan.spawn body slots awaits) = nat_lt 0 body
+forks_and_joins (plan.sync e) = true
+forks_and_joins (plan.return e) = true
+forks_and_joins plan.break = true
+forks_and_joins plan.continue = true
+forks_and_joins e = false
 
--- Its tasks are made by `@spawn` and waited for by `fetch`, `wait` and `@sync`; none yields, and only
--- the main task prints, outside of functions.
+-- what the main task's body may have: it prints too
+abbrev pub forks_joins_or_prints : Plan → Bool
+forks_joins_or_prints (plan.print ps) = true
+forks_joins_or_prints e = forks_and_joins e
+
+-- one of the bodies has a part that isn't allowed
+abbrev pub some_other : (Plan → Bool) → List BodyPlan → Bool
+some_other allowed bodies = list_any (λ b. some_part (λ e. not (allowed e)) b.code) bodies
+
+-- Its tasks are made by `@spawn` and waited for by `fetch`, `wait` and `@sync`, and only the main task
+-- prints, outside of functions. What isn't listed, such as `yield`, stands in none of its bodies.
 pub record IsForkJoin (program : ProgramPlan) : Type 0 where
-  pub no_yield : list_any (λ b. some_part is_yield b.code) (program.functions ++ program.tasks) ≡ false
-  pub main_prints : list_any (λ b. some_part is_print b.code) (program.functions ++ drop 1 program.tasks) ≡ false
+  pub bodies : some_other forks_and_joins (program.functions ++ drop 1 program.tasks) ≡ false
+  pub main : some_other forks_joins_or_prints (take 1 program.tasks) ≡ false
 
 -- ---- its serial elision
 

@@ -14,11 +14,11 @@ use Rattle.jt_base.specs.Coming.{op_of, is_spawn, one_spawn, spawned_from, spawn
 use Rattle.jt_laws.specs.Entries.{ends}
 use Rattle.jt_laws.specs.Replies.{can_reply}
 use Rattle.jt_program.specs.Plan.{BodyPlan, ProgramPlan}
-use Rattle.jt_step.specs.declared.start.Start.{Start}
-use Rattle.jt_step.specs.State as state
-use Rattle.jt_step.specs.State.{State, Out, Gave, Returned, Broke, Continued, Faulted, Asks, Unfit, bind, Given, given, answered, ask, ask_with}
-use Rattle.jt_step.specs.Meaning.{variables_of, whole, go, ended, task_of, beginning, task}
-use Rattle.jt_step.specs.Next.{next_of, next_operation}
+use Rattle.jt_meaning.specs.declared.start.Start.{Start}
+use Rattle.jt_meaning.specs.State as state
+use Rattle.jt_meaning.specs.State.{State, Out, Gave, Returned, Broke, Continued, Faulted, Asks, Unfit, bind, Given, given, answered, ask, ask_with}
+use Rattle.jt_meaning.specs.Meaning.{variables_of, whole, go, ended, task_of, beginning, task}
+use Rattle.jt_meaning.specs.Next.{next_of, next_operation}
 use Rattle.jt_step.specs.Tasks.{ComesAfter}
 use Rattle.jt_step.specs.Fine.{Reach, Left, AsksFor, Fine, go_fine}
 use Rattle.jt_step.specs.More.{plus, after, More, go_more}

@@ -10,6 +10,7 @@ use Rattle.jt_base.specs.declared.operation.Reply.{Reply}
 use Rattle.jt_base.specs.declared.operation.Reply.TheVariants as reply
 use Rattle.jt_base.specs.declared.entry.Note.{Note}
 use Rattle.jt_base.specs.Jobs.{note_reply}
+use Rattle.jt_base.specs.Limits.{most_calls}
 use Rattle.jt_program.specs.declared.code.Code.{Code}
 use Rattle.jt_program.specs.declared.code.Arm.{Arm}
 use Rattle.jt_program.specs.declared.code.Piece.{Piece}
@@ -18,10 +19,10 @@ use Rattle.jt_syntax.specs.declared.operator.ComparisonOperator.{ComparisonOpera
 use Rattle.jt_program.specs.Plan.{Plan, Plans, Operands, Comparisons, Choices, Pieces, BodyPlan, ProgramPlan}
 use Rattle.jt_program.specs.Plan as plan
 use Rattle.jt_program.specs.View.{plan_of, arm_plan, piece_plan, plans, operand_plan, operands_of, comparisons_of, choices_of, pieces_of}
-use Rattle.jt_step.specs.State.{State, Out, Gave, Returned, Broke, Continued, Faulted, Unfit, Step, bind, ask, turn, renew, renew_with, most_calls, Given, given}
-use Rattle.jt_step.specs.State as state
-use Rattle.jt_step.specs.Values.{operated, unary_of, compared_by, shown, shown_with}
-use Rattle.jt_step.specs.Meaning.{gives, synced, noticed, wait_all, unless_failed, assigned, defined, test, holds, looped, left, Later, whole, range, bounds, turns_from, call, run, run_operands, run_comparisons, run_connection, run_choices, run_all, run_arguments, run_pieces, go, ended}
+use Rattle.jt_meaning.specs.State.{State, Out, Gave, Returned, Broke, Continued, Faulted, Unfit, Step, bind, ask, turn, renew, renew_with, Given, given}
+use Rattle.jt_meaning.specs.State as state
+use Rattle.jt_meaning.specs.Values.{operated, unary_of, compared_by, shown, shown_with}
+use Rattle.jt_meaning.specs.Meaning.{gives, synced, noticed, wait_all, unless_failed, assigned, defined, test, holds, looped, left, Later, whole, range, bounds, turns_from, call, run, run_operands, run_comparisons, run_connection, run_choices, run_all, run_arguments, run_pieces, go, ended}
 use Rattle.jt_step.specs.declared.frame.Frame.{Frame}
 use Rattle.jt_step.specs.declared.frame.Frame.TheVariants as frame
 use Rattle.jt_step.specs.declared.frame.Exit.{Exit}

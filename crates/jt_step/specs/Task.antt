@@ -13,10 +13,10 @@ use Rattle.jt_step.specs.declared.frame.Loop.{Loop}
 use Rattle.jt_step.specs.declared.frame.Loop.TheVariants as loop
 use Rattle.jt_step.specs.declared.mode.Mode.{Mode}
 use Rattle.jt_step.specs.declared.mode.Mode.TheVariants as mode
-use Rattle.jt_step.specs.declared.start.Start.{Start}
+use Rattle.jt_meaning.specs.declared.start.Start.{Start}
 use Rattle.jt_step.specs.declared.task.TaskState.{TaskState}
-use Rattle.jt_step.specs.State.{State, renew, renew_with}
-use Rattle.jt_step.specs.Meaning.{task}
+use Rattle.jt_meaning.specs.State.{State, renew, renew_with}
+use Rattle.jt_meaning.specs.Meaning.{task}
 use Rattle.jt_step.specs.Stack.{at, unused}
 use Rattle.jt_step.specs.Tasks.{Task}
 

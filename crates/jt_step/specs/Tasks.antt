@@ -6,10 +6,8 @@ use Rattle.jt_base.specs.declared.operation.How.TheVariants.{Default, Interactiv
 use Rattle.jt_base.specs.declared.operation.Op.{Op}
 use Rattle.jt_base.specs.declared.operation.Op.TheVariants.{Begin, Spawn}
 use Rattle.jt_base.specs.declared.operation.Reply.{Reply}
-use Rattle.jt_base.specs.declared.run.Limits.{Limits}
 use Rattle.jt_base.specs.declared.run.Pool.{Pool}
 use Rattle.jt_base.specs.declared.run.Pool.TheVariants as pool
-use Rattle.jt_base.specs.declared.run.Seeds.{Seeds}
 use Rattle.jt_base.specs.declared.run.Sizes.{Sizes}
 use Rattle.jt_base.specs.Jobs.{Seat, Held, note_reply}
 use Rattle.jt_base.specs.Coming.{Next}
@@ -18,19 +16,13 @@ use Rattle.jt_laws.specs.Entries.{ends}
 use Rattle.jt_laws.specs.Replies.{can_reply}
 use Rattle.jt_laws.specs.Seats.{main_seat, interactive_pool}
 use Rattle.jt_laws.specs.Tasks.{is_main}
-use Rattle.jt_program.specs.Plan.{ProgramPlan}
-use Rattle.jt_step.specs.declared.start.Start.{Start}
+use Rattle.jt_meaning.specs.declared.start.Start.{Start}
 use Rattle.jt_step.specs.declared.task.Advance.{Advance}
 use Rattle.jt_step.specs.declared.task.Advance.TheVariants.{More, Needs, Spawns, Over}
-use Rattle.jt_step.specs.State.{Out, turns_of}
-use Rattle.jt_step.specs.Meaning.{task}
-use Rattle.jt_step.specs.Next.{next_of, next_operation, IsLater}
-
--- what the tasks of a run have in common
-pub record Run : Type 0 where
-  pub program : ProgramPlan
-  pub sizes : Sizes
-  pub limits : Limits
+use Rattle.jt_meaning.specs.State.{Out, turns_of}
+use Rattle.jt_meaning.specs.Meaning.{task}
+use Rattle.jt_meaning.specs.Run.{Run}
+use Rattle.jt_meaning.specs.Next.{next_of, next_in, IsLater}
 
 -- the run, the task's path, start and seat, its notes so far and how many more it has room for, the
 -- turns that it has taken, and whether memory was refused in an advance
@@ -47,9 +39,6 @@ pub record Task : Type 0 where
 -- its description
 abbrev pub told_of : Task → Held Start
 told_of t = record { path = t.path; start = t.start; seat = t.seat; log = t.log }
-
-abbrev pub main_start : Seeds → Start
-main_start seeds = record { code = 0; captured = []; constants = []; home = true; stream = seeds.words; how = Default }
 
 -- the seat at a task's beginning, where `parent` is the pool of the task that makes it
 abbrev pub seat_by_how : Sizes → How → Pool → Seat
@@ -73,10 +62,6 @@ new_task run path start parent = record {
   taken = 0;
   failed = false;
 }
-
--- what comes next for a path, a start and the replies so far
-abbrev pub next_in : Run → List ℕ → Start → List Reply → Option (Next Start)
-next_in run path start replies = next_operation run.program run.limits.turns path start replies
 
 -- what comes of the task after its notes
 abbrev pub out_of : Task → Out

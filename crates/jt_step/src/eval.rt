@@ -4,7 +4,7 @@ ghost use Rattle.std.specs.Prelude.{◌≡◌, ◌+◌, IfOk, slice_get};
 ghost use Rattle.jt_program.specs.Plan.{ProgramPlan};
 ghost use Rattle.jt_program.specs.View.{plan_of, program_plan};
 ghost use Rattle.jt_step.specs.Moves.{Does, known_mode};
-ghost use Rattle.jt_step.specs.State.{State};
+ghost use Rattle.jt_meaning.specs.State.{State};
 ghost use Rattle.jt_step.specs.Stack.{Follows, after, does, frame_weight, weight};
 
 use crate::frame::Frame;
@@ -58,8 +58,13 @@ impl<'p> Machine<'p> {
                 Frame::Connection(*connective, es.as_slice()),
                 e.get(),
             )?),
-            Code::Branch(arms, otherwise) => Ok(self.next_arm(arms.as_slice(), otherwise.get())?),
+            Code::Branch(arms, otherwise) => Ok(self.next_arm(
+                alloc,
+                arms.as_slice(),
+                otherwise.get(),
+            )?),
             Code::Block(es) => Ok(self.next_part(
+                alloc,
                 SmallValue {
                     form: Form::Nothing,
                 },

@@ -3,16 +3,16 @@
 ghost use Rattle.std.specs.Prelude.{◌≡◌, [], IfOk, None, slice_get};
 ghost use Rattle.jt_program.specs.Plan.{ProgramPlan};
 ghost use Rattle.jt_program.specs.View.{program_plan};
-ghost use Rattle.jt_step.specs.Meaning as meaning;
+ghost use Rattle.jt_meaning.specs.Meaning as meaning;
 ghost use Rattle.jt_step.specs.Moves.{Does, built_in_mode};
 
 use crate::machine::Machine;
 use crate::mode::Mode;
 use crate::row::valued;
 use crate::small::{Cause, Form, SmallFault, SmallValue};
-use crate::start::Start;
 use crate::value::apply;
 use jt_base::{How, Op, OutOfMemory, Path, Value};
+use jt_meaning::Start;
 use jt_program::{BuiltIn, Fork, Program};
 use sqlite_items::{Boxed, Items, at};
 use std::alloc::Global;

@@ -3,10 +3,10 @@
 ghost use Rattle.std.specs.Prelude.{◌≡◌, ◌<◌, ◌+◌, ◌+ℤ◌, pos, int_lt, List, IfOk};
 ghost use Rattle.jt_base.specs.declared.operation.Reply.{Reply};
 ghost use Rattle.jt_program.specs.Plan.{ProgramPlan};
-ghost use Rattle.jt_step.specs.Meaning.{go};
+ghost use Rattle.jt_meaning.specs.Meaning.{go};
 ghost use Rattle.jt_step.specs.Moves.{bounds_mode, range_mode, turn_mode};
 ghost use Rattle.jt_step.specs.Stack.{Follows, Hands, at, frames_weight, later_of, loop_weight, resume, state_of, work};
-ghost use Rattle.jt_step.specs.State.{Gave};
+ghost use Rattle.jt_meaning.specs.State.{Gave};
 
 use crate::frame::{Exit, Frame, Loop};
 use crate::machine::Machine;
@@ -54,9 +54,11 @@ impl<'p> Machine<'p> {
             Frame::Operand(operator, w, es) => Ok(self.give_operand(alloc, operator, w, v, es)?),
             Frame::Comparisons(es) => Ok(self.next_comparison(alloc, v, es)?),
             Frame::Compared(operator, w, es) => Ok(self.give_compared(alloc, operator, w, v, es)?),
-            Frame::Connection(connective, es) => Ok(self.next_connected(connective, v, es)?),
-            Frame::Choice(e, arms, otherwise) => Ok(self.give_condition(v, e, arms, otherwise)?),
-            Frame::Rest(es) => Ok(self.next_part(v, es)?),
+            Frame::Connection(connective, es) => Ok(self.next_connected(alloc, connective, v, es)?),
+            Frame::Choice(e, arms, otherwise) => Ok(self.give_condition(
+                alloc, v, e, arms, otherwise,
+            )?),
+            Frame::Rest(es) => Ok(self.next_part(alloc, v, es)?),
             Frame::Condition(first, count, condition, body) => Ok(turn_of(
                 v,
                 Loop::While(first, count, condition, body),
@@ -66,7 +68,7 @@ impl<'p> Machine<'p> {
                 high,
             )?),
             Frame::High(first, count, low, body) => Ok(turns_between(first, count, body, low, v)),
-            Frame::Loop(l) => Ok(self.go_on(l)?),
+            Frame::Loop(l) => Ok(self.go_on(alloc, l)?),
             Frame::Arguments(callee, es, mut vs) => {
                 vs.push(v)?;
                 Ok(self.next_argument(alloc, callee, vs, es)?)
@@ -128,6 +130,7 @@ impl<'p> Machine<'p> {
     /// The condition of an arm has its value.
     fn give_condition(
         &mut self,
+        alloc: Global,
         v: SmallValue,
         e: &'p Code,
         arms: &'p [Arm],
@@ -140,7 +143,7 @@ impl<'p> Machine<'p> {
                 if holds {
                     Ok(Mode::Eval(e))
                 } else {
-                    Ok(self.next_arm(arms, otherwise)?)
+                    Ok(self.next_arm(alloc, arms, otherwise)?)
                 }
             }
             _ => Ok(Mode::Faulted(SmallFault {
@@ -149,18 +152,21 @@ impl<'p> Machine<'p> {
         }
     }
 
-    /// Goes on with a loop whose body has ended.
-    pub(crate) fn go_on(&mut self, l: Loop<'p>) -> Result<Mode<'p>, OutOfMemory>
+    /// Goes on with a loop whose body has ended. A condition that is read at once is tested at once.
+    pub(crate) fn go_on(&mut self, alloc: Global, l: Loop<'p>) -> Result<Mode<'p>, OutOfMemory>
         ensures same { IfOk result (λ m. (program : ProgramPlan) (rs : List Reply) → at program self.new m rs ≡ resume program self.old.frames.items (go program (later_of l.entry) (state_of self.old rs))) }
         ensures less { IfOk result (λ m. work self.new m < 1 + loop_weight l.entry + frames_weight self.old.frames.items) }
         ensures turns { IfOk result (λ m. self.new.turns ≡ self.old.turns) }
     {
         match l {
-            Loop::While(first, count, condition, body) => {
-                self.frames
-                    .push(Frame::Condition(first, count, condition, body))?;
-                Ok(Mode::Eval(condition))
-            }
+            Loop::While(first, count, condition, body) => match self.read(alloc, condition)? {
+                Some(v) => Ok(turn_of(v, l)),
+                None => {
+                    self.frames
+                        .push(Frame::Condition(first, count, condition, body))?;
+                    Ok(Mode::Eval(condition))
+                }
+            },
             Loop::Range(first, count, body, i, last) => Ok(next_number(
                 first, count, body, i, last,
             )),

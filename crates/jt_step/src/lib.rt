@@ -13,7 +13,6 @@ mod read;
 mod row;
 mod run;
 mod small;
-mod start;
 mod sync;
 mod task;
 mod turn;
@@ -21,5 +20,4 @@ mod unwind;
 mod value;
 mod variables;
 
-pub use start::Start;
 pub use task::{Advance, TaskRun};

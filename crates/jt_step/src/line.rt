@@ -1,7 +1,7 @@
 //! A line that is being put together.
 
 ghost use Rattle.std.specs.Prelude.{◌≡◌, [], Some, OnOk};
-ghost use Rattle.jt_step.specs.Values as spec;
+ghost use Rattle.jt_meaning.specs.Values as spec;
 
 use crate::small::{Form, SmallValue};
 use itoa::Buffer;

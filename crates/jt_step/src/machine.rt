@@ -3,14 +3,14 @@
 ghost use Rattle.std.specs.Prelude.{◌≡◌, ◌++◌, ◌-◌, [], IfOk, List, None, Some, length, map, replicate};
 ghost use Rattle.jt_base.specs.declared.operation.Reply.{Reply};
 ghost use Rattle.jt_program.specs.View.{program_plan};
-ghost use Rattle.jt_step.specs.Meaning.{beginning};
+ghost use Rattle.jt_meaning.specs.Meaning.{beginning};
 ghost use Rattle.jt_step.specs.Stack.{state_of};
 
 use crate::frame::Frame;
 use crate::small::SmallValue;
-use crate::start::Start;
 use crate::variables::variables_of;
 use jt_base::{OutOfMemory, Path};
+use jt_meaning::Start;
 use jt_program::Program;
 use sqlite_items::Items;
 use std::alloc::Global;

@@ -6,9 +6,9 @@ ghost use Rattle.jt_step.specs.Tasks.{told};
 
 use crate::frame::Loop;
 use crate::small::{SmallFault, SmallValue};
-use crate::start::Start;
 use crate::task::Advance;
 use jt_base::{Op, OutOfMemory};
+use jt_meaning::Start;
 use jt_program::Code;
 use sqlite_items::{Boxed, Items};
 use std::alloc::Global;

@@ -2,9 +2,9 @@
 
 ghost use Rattle.std.specs.Prelude.{◌≡◌, ◌+◌, ◌≤◌, IfOk};
 ghost use Rattle.jt_program.specs.Plan.{ProgramPlan};
-ghost use Rattle.jt_step.specs.Meaning.{go, run_pieces};
+ghost use Rattle.jt_meaning.specs.Meaning.{go, run_pieces};
 ghost use Rattle.jt_step.specs.Moves.{Does, from_value};
-ghost use Rattle.jt_step.specs.State.{State};
+ghost use Rattle.jt_meaning.specs.State.{State};
 ghost use Rattle.jt_step.specs.Stack.{pieces_in, pieces_weight};
 
 use crate::fork::waits;

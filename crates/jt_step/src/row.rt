@@ -3,9 +3,10 @@
 ghost use Rattle.std.specs.Prelude.{◌≡◌, ◌∷◌, ◌+◌, [], IfOk, MatchOption};
 ghost use Rattle.jt_program.specs.Plan.{ProgramPlan};
 ghost use Rattle.jt_program.specs.View.{plan_of, plans};
-ghost use Rattle.jt_step.specs.Meaning.{go, run_all, run_arguments, run_choices, run_comparisons, run_connection, run_operands};
+ghost use Rattle.jt_step.specs.AtOnce.{Did, asks, truth};
+ghost use Rattle.jt_meaning.specs.Meaning.{go, run_all, run_arguments, run_choices, run_comparisons, run_connection, run_operands};
 ghost use Rattle.jt_step.specs.Moves.{Does, asking, valued_mode};
-ghost use Rattle.jt_step.specs.State.{State, bind};
+ghost use Rattle.jt_meaning.specs.State.{State, bind};
 ghost use Rattle.jt_step.specs.Stack.{choices_in, choices_weight, comparisons_in, comparisons_weight, does, operands_in, operands_weight, plans_weight, weight};
 
 use crate::fork::call_built_in;
@@ -14,6 +15,7 @@ use crate::machine::Machine;
 use crate::mode::Mode;
 use crate::small::{Cause, Form, SmallFault, SmallValue};
 use crate::value::{compare, operate};
+use crate::variables::assign;
 use jt_base::OutOfMemory;
 use jt_program::{Arm, Callee, Code};
 use jt_syntax::{ArithmeticOperator, ComparisonOperator, Connective};
@@ -24,14 +26,41 @@ impl<'p> Machine<'p> {
     /// Goes on with the parts of a block that are left; `v` is the value of the one before.
     pub(crate) fn next_part(
         &mut self,
+        alloc: Global,
         v: SmallValue,
         es: &'p [Code],
     ) -> Result<Mode<'p>, OutOfMemory>
         ensures { IfOk result (λ m. (program : ProgramPlan) → Does program self.old (run_all program (go program) v (plans es.now)) (plans_weight (plans es.now) + 1) self.new m) }
     {
-        match first_of(es) {
-            None => Ok(Mode::Gave(v)),
-            Some((e, rest)) => Ok(self.begin_part(e, rest)?),
+        let mut v = v;
+        let mut es = es;
+        'parts: loop {
+            match first_of(es) {
+                None => return Ok(Mode::Gave(v)),
+                Some((e, rest)) => {
+                    match self.assign_read(alloc, e)? {
+                        None => return Ok(self.begin_part(e, rest)?),
+                        Some(w) => v = w,
+                    }
+                    es = rest;
+                }
+            }
+        }
+    }
+
+    /// Does an assignment whose value is read at once; does nothing, and gives none, for other parts.
+    fn assign_read(&mut self, alloc: Global, e: &Code) -> Result<Option<SmallValue>, OutOfMemory>
+        ensures { IfOk result (λ r. MatchOption r (self.new ≡ self.old) (λ v. Did self.old (λ program. does program (plan_of e.now)) v self.new)) }
+    {
+        match e {
+            Code::Assign(slot, e) => match self.read(alloc, e.get())? {
+                Some(v) => {
+                    assign(&mut self.variables, *slot, v.copy(alloc)?);
+                    Ok(Some(v))
+                }
+                None => Ok(None),
+            },
+            _ => Ok(None),
         }
     }
 
@@ -119,45 +148,66 @@ impl<'p> Machine<'p> {
     /// Goes on with the operands of `&&` or `||` that are left, unless the last value decides.
     pub(crate) fn next_connected(
         &mut self,
+        alloc: Global,
         connective: Connective,
         v: SmallValue,
         es: &'p [Code],
     ) -> Result<Mode<'p>, OutOfMemory>
         ensures { IfOk result (λ m. (program : ProgramPlan) → Does program self.old (run_connection program (go program) connective v (plans es.now)) (plans_weight (plans es.now) + 1) self.new m) }
     {
-        match first_of(es) {
-            None => Ok(Mode::Gave(v)),
-            Some((e, rest)) => match v.form {
-                Form::Flag(flag) => {
-                    if flag == asking(connective) {
-                        self.frames.push(Frame::Connection(connective, rest))?;
-                        Ok(Mode::Eval(e))
-                    } else {
-                        Ok(Mode::Gave(SmallValue {
-                            form: Form::Flag(flag),
-                        }))
+        let mut v = v;
+        let mut es = es;
+        'operands: loop {
+            match first_of(es) {
+                None => return Ok(Mode::Gave(v)),
+                Some((e, rest)) => {
+                    match asks(connective, &v) {
+                        None => return Ok(Mode::Faulted(SmallFault {
+                            cause: Cause::Method,
+                        })),
+                        Some(false) => return Ok(Mode::Gave(v)),
+                        Some(true) => match self.read(alloc, e)? {
+                            None => {
+                                self.frames.push(Frame::Connection(connective, rest))?;
+                                return Ok(Mode::Eval(e));
+                            }
+                            Some(w) => v = w,
+                        },
                     }
+                    es = rest;
                 }
-                _ => Ok(Mode::Faulted(SmallFault {
-                    cause: Cause::Method,
-                })),
-            },
+            }
         }
     }
 
     /// Goes on with the arms of a branch that are left.
     pub(crate) fn next_arm(
         &mut self,
+        alloc: Global,
         arms: &'p [Arm],
         otherwise: &'p Code,
     ) -> Result<Mode<'p>, OutOfMemory>
         ensures { IfOk result (λ m. (program : ProgramPlan) → Does program self.old (run_choices program (go program) (choices_in arms.now) (does program (plan_of otherwise.entry.now))) (choices_weight (choices_in arms.now) + weight (plan_of otherwise.entry.now) + 1) self.new m) }
     {
-        match first_of(arms) {
-            None => Ok(Mode::Eval(otherwise)),
-            Some((arm, rest)) => {
-                self.frames.push(Frame::Choice(&arm.body, rest, otherwise))?;
-                Ok(Mode::Eval(&arm.condition))
+        let mut arms = arms;
+        'arms: loop {
+            match first_of(arms) {
+                None => return Ok(Mode::Eval(otherwise)),
+                Some((arm, rest)) => {
+                    match self.read(alloc, &arm.condition)? {
+                        None => {
+                            self.frames.push(Frame::Choice(&arm.body, rest, otherwise))?;
+                            return Ok(Mode::Eval(&arm.condition));
+                        }
+                        Some(v) => match truth(&v) {
+                            Some(true) => return Ok(Mode::Eval(&arm.body)),
+                            Some(false) => arms = rest,
+                            None => return Ok(Mode::Faulted(SmallFault {
+                                cause: Cause::Method,
+                            })),
+                        },
+                    }
+                }
             }
         }
     }
@@ -194,6 +244,26 @@ impl<'p> Machine<'p> {
                 }
             }
         }
+    }
+}
+
+/// The truth value, if this is one.
+pub(crate) fn truth(v: &SmallValue) -> Option<bool>
+    ensures { result ≡ truth v.now }
+{
+    match &v.form {
+        Form::Flag(flag) => Some(*flag),
+        _ => None,
+    }
+}
+
+/// Whether the next operand is evaluated after this value; nothing after one that is no truth value.
+pub(crate) fn asks(connective: Connective, v: &SmallValue) -> Option<bool>
+    ensures { result ≡ asks connective v.now }
+{
+    match &v.form {
+        Form::Flag(flag) => Some(*flag == asking(connective)),
+        _ => None,
     }
 }
 

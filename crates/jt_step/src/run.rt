@@ -3,7 +3,7 @@
 ghost use Rattle.std.specs.Prelude.{◌≡◌, ◌≤◌, true, IfOk, length};
 ghost use Rattle.jt_base.specs.declared.operation.Reply.TheVariants as reply;
 ghost use Rattle.jt_program.specs.View.{program_plan};
-ghost use Rattle.jt_step.specs.State.{given};
+ghost use Rattle.jt_meaning.specs.State.{given};
 ghost use Rattle.jt_step.specs.Stack.{Runs, waits, taken, over_by, given_mode};
 
 use crate::machine::Machine;

@@ -3,10 +3,10 @@
 ghost use Rattle.std.specs.Prelude.{◌≡◌, ◌+◌, [], IfOk, None, Some, drop};
 ghost use Rattle.jt_program.specs.Plan.{ProgramPlan};
 ghost use Rattle.jt_program.specs.View.{plan_of};
-ghost use Rattle.jt_step.specs.Meaning.{awaiting, first_fault, synced, unless_failed, wait_all};
+ghost use Rattle.jt_meaning.specs.Meaning.{awaiting, first_fault, synced, unless_failed, wait_all};
 ghost use Rattle.jt_step.specs.Moves.{Does, left_mode};
 ghost use Rattle.jt_step.specs.Stack.{does, exits, weight};
-ghost use Rattle.jt_step.specs.State.{State};
+ghost use Rattle.jt_meaning.specs.State.{State};
 
 use crate::frame::{Exit, Frame, Waits};
 use crate::machine::Machine;

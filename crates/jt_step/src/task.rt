@@ -8,8 +8,8 @@ ghost use Rattle.jt_step.specs.Tasks.{Advances, AsksWell, GoesOn, new_task, seat
 
 use crate::machine::Machine;
 use crate::mode::Mode;
-use crate::start::Start;
 use jt_base::{How, Job, Limits, Note, Op, OutOfMemory, Path, Pool, Reply, Sizes};
+use jt_meaning::Start;
 use jt_program::Program;
 use std::alloc::Global;
 use std::marker::Model;
@@ -182,7 +182,9 @@ impl<'p> TaskRun<'p> {
 
 impl<'p> Job for TaskRun<'p> {
     ghost use Rattle.jt_step.specs.Laws.{first_operation, needs_no_spawn, spawns_next_child};
-    ghost use Rattle.jt_step.specs.Tasks.{Run, Task, next_in, told_of};
+    ghost use Rattle.jt_meaning.specs.Run.{Run};
+    ghost use Rattle.jt_meaning.specs.Next.{next_in};
+    ghost use Rattle.jt_step.specs.Tasks.{Task, told_of};
 
     type Start = Start;
 

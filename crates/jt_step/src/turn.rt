@@ -10,14 +10,11 @@ use crate::machine::Machine;
 use crate::mode::Mode;
 use crate::small::{Cause, Form, SmallFault, SmallValue};
 use crate::variables::{arguments_of, assign, renew};
-use jt_base::OutOfMemory;
+use jt_base::{MOST_CALLS, OutOfMemory};
 use jt_program::Program;
 use sqlite_items::at;
 use std::alloc::Global;
 use std::mem::replace;
-
-/// The most calls that may be open.
-const MOST_CALLS: u32 = 10000;
 
 impl<'p> Machine<'p> {
     /// Whether nothing moves but by a reply or by a turn.
@@ -93,7 +90,7 @@ impl<'p> Machine<'p> {
             Mode::Returned(v) => Ok(self.return_value(alloc, v)?),
             Mode::Broke => Ok(self.leave_loop()),
             Mode::Continued => {
-                let mode = self.next_turn()?;
+                let mode = self.next_turn(alloc)?;
                 Ok(mode)
             }
             Mode::Faulted(fault) => Ok(self.fail(alloc, fault)?),

@@ -2,7 +2,7 @@
 
 ghost use Rattle.std.specs.Prelude.{IfOk};
 ghost use Rattle.jt_program.specs.Plan.{ProgramPlan};
-ghost use Rattle.jt_step.specs.State.{Returned, Broke, Continued, Faulted};
+ghost use Rattle.jt_meaning.specs.State.{Returned, Broke, Continued, Faulted};
 ghost use Rattle.jt_step.specs.Stack.{Follows, Hands};
 
 use crate::frame::{Exit, Frame};
@@ -83,7 +83,7 @@ impl<'p> Machine<'p> {
     }
 
     /// The innermost loop goes on to its next turn.
-    pub(crate) fn next_turn(&mut self) -> Result<Mode<'p>, OutOfMemory>
+    pub(crate) fn next_turn(&mut self, alloc: Global) -> Result<Mode<'p>, OutOfMemory>
         ensures { IfOk result (λ m. (program : ProgramPlan) → Follows program self.old Mode.Continued self.new m) }
     {
         match self.frames.pop() {
@@ -91,13 +91,13 @@ impl<'p> Machine<'p> {
                 cause: Cause::Method,
             })),
             Some(frame) => {
-                let mode = self.next_turn_to(frame)?;
+                let mode = self.next_turn_to(alloc, frame)?;
                 Ok(mode)
             }
         }
     }
 
-    fn next_turn_to(&mut self, frame: Frame<'p>) -> Result<Mode<'p>, OutOfMemory>
+    fn next_turn_to(&mut self, alloc: Global, frame: Frame<'p>) -> Result<Mode<'p>, OutOfMemory>
         ensures { IfOk result (λ m. (program : ProgramPlan) → Hands program self.old frame.entry Continued self.new m) }
     {
         match frame {
@@ -105,7 +105,7 @@ impl<'p> Machine<'p> {
                 cause: Cause::Method,
             })),
             Frame::Loop(turns) => {
-                let mode = self.go_on(turns)?;
+                let mode = self.go_on(alloc, turns)?;
                 Ok(mode)
             }
             Frame::Sync(outer) => {

@@ -2,7 +2,7 @@
 
 ghost use Rattle.std.specs.Prelude.{◌≡◌, ◌∷◌, [], Ok, Err, IfOk};
 ghost use Rattle.jt_base.specs.declared.value.Value.TheVariants.{Int, Flag};
-ghost use Rattle.jt_step.specs.Values as spec;
+ghost use Rattle.jt_meaning.specs.Values as spec;
 
 mod comparisons;
 

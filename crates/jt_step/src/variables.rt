@@ -1,7 +1,7 @@
 //! The variables of a call, and those of a loop.
 
 ghost use Rattle.std.specs.Prelude.{◌≡◌, ◌++◌, ◌-◌, length, IfOk, OnOk, None, Some, map, replicate, take, slice_set};
-ghost use Rattle.jt_step.specs.State.{renewed};
+ghost use Rattle.jt_meaning.specs.State.{renewed};
 
 use crate::small::SmallValue;
 use jt_base::{OutOfMemory, Value};

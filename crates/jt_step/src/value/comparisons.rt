@@ -1,7 +1,7 @@
 //! Comparisons of two values.
 
 ghost use Rattle.std.specs.Prelude.{◌≡◌, int_lt, int_le};
-ghost use Rattle.jt_step.specs.Values as spec;
+ghost use Rattle.jt_meaning.specs.Values as spec;
 
 use crate::small::{Form, SmallValue};
 use jt_syntax::ComparisonOperator;

@@ -1,6 +1,6 @@
 -- The values of the constants so far are taken.
 use Rattle.std.proofs.Common.{◌≡◌, [], drop}
-use Rattle.jt_step.specs.Meaning as meaning
+use Rattle.jt_meaning.specs.Meaning as meaning
 use Rattle.jt_step.proofs.fork.values_known.Given as goal
 
 abbrev pub invariant-loop-constant : goal.invariant-loop-constant

@@ -1,6 +1,6 @@
 -- The values of the slots so far are taken.
 use Rattle.std.proofs.Common.{◌≡◌, [], drop}
-use Rattle.jt_step.specs.Meaning as meaning
+use Rattle.jt_meaning.specs.Meaning as meaning
 use Rattle.jt_step.proofs.fork.values_taken.Given as goal
 
 abbrev pub invariant-loop-slot : goal.invariant-loop-slot

@@ -1,8 +1,8 @@
 -- The line has the texts before the index, and the items from there on are left.
 use Rattle.std.proofs.Common.{◌≡◌, ◌≤◌, drop}
 use Rattle.jt_program.specs.Plan.{ProgramPlan}
-use Rattle.jt_step.specs.Meaning.{go, run_pieces}
-use Rattle.jt_step.specs.State.{State}
+use Rattle.jt_meaning.specs.Meaning.{go, run_pieces}
+use Rattle.jt_meaning.specs.State.{State}
 use Rattle.jt_step.specs.Stack.{pieces_in, pieces_weight}
 use Rattle.jt_step.proofs.print.next_value.Given as goal
 

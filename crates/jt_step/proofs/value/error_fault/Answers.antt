@@ -1,7 +1,7 @@
 -- UTF-8 is its own text, and other bytes have none.
 use Rattle.std.proofs.Common.{◌∙◌, ap, sym}
 use Rattle.jt_base.specs.declared.operation.Fault.TheVariants.{Error}
-use Rattle.jt_step.specs.Values.{error_of}
+use Rattle.jt_meaning.specs.Values.{error_of}
 use Rattle.jt_step.proofs.Utf8.{text_of-valid, text_of-broken}
 use Rattle.jt_step.proofs.value.error_fault.Goals as goal
 

@@ -1,6 +1,6 @@
 -- UTF-8 is its own text, and other bytes have none.
 use Rattle.std.proofs.Common.{◌≡◌, ◌∙◌, ap, sym, subst, Some, OnOk}
-use Rattle.jt_step.specs.Values.{shown_with}
+use Rattle.jt_meaning.specs.Values.{shown_with}
 use Rattle.jt_step.proofs.Lines.{unshown}
 use Rattle.jt_step.proofs.Utf8.{text_of-valid, text_of-broken}
 use Rattle.jt_step.proofs.line.Line.push_text.Goals as goal

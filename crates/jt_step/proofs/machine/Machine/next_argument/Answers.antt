@@ -1,7 +1,7 @@
 -- What can be read is taken at once; else one frame is pushed, and what it does with the part's value is what follows.
 use Rattle.std.proofs.Common.{◌+◌, ◌∙◌, arith, refl}
 use Rattle.jt_program.specs.View.{plan_of, plans}
-use Rattle.jt_step.specs.Meaning.{go, run_arguments}
+use Rattle.jt_meaning.specs.Meaning.{go, run_arguments}
 use Rattle.jt_step.specs.Stack.{plans_weight}
 use Rattle.jt_step.proofs.Moves.{pushes_from, does_from, enters}
 use Rattle.jt_step.proofs.Known.{argument_read, plans_fewer, reads_at}

@@ -3,7 +3,7 @@ use Rattle.std.proofs.Common.{◌≡◌, ◌≤◌, List, length}
 use Rattle.jt_base.specs.declared.operation.Reply.{Reply}
 use Rattle.jt_program.specs.Plan.{ProgramPlan}
 use Rattle.jt_program.specs.View.{plans}
-use Rattle.jt_step.specs.Meaning.{go, run_arguments}
+use Rattle.jt_meaning.specs.Meaning.{go, run_arguments}
 use Rattle.jt_step.specs.Stack.{plans_weight, state_of}
 use Rattle.jt_step.proofs.machine.Machine.next_argument.Given as goal
 

@@ -4,7 +4,7 @@ use Rattle.jt_base.specs.declared.operation.Op.{Op}
 use Rattle.jt_base.specs.Coming.{op_of}
 use Rattle.jt_base.specs.Jobs.{note_reply}
 use Rattle.jt_program.specs.View.{program_plan}
-use Rattle.jt_step.specs.Meaning.{task}
+use Rattle.jt_meaning.specs.Meaning.{task}
 use Rattle.jt_step.specs.Laws.{goes_on, spawned_body, spawned_how, task_operation}
 use Rattle.jt_step.specs.Task.{seen}
 use Rattle.jt_step.specs.Tasks.{coming, told}

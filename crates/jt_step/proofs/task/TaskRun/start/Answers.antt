@@ -3,7 +3,7 @@ use Rattle.std.proofs.Common.{[], ◌<◌, length, refl, sym, ap, ◌∙◌, ari
 use Rattle.std.specs.Prelude.{option_map}
 use Rattle.std.proofs.lemmas.Option.{slice_get-get_or, slice_get-map}
 use Rattle.jt_program.specs.View.{body_plan, program_plan}
-use Rattle.jt_step.specs.State.{State}
+use Rattle.jt_meaning.specs.State.{State}
 use Rattle.jt_step.proofs.Starts.{new_seen, starts}
 use Rattle.jt_step.proofs.task.TaskRun.start.Goals as goal
 

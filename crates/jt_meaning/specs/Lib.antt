@@ -1,0 +1,5 @@
+pub mod Run
+pub mod State
+pub mod Values
+pub mod Meaning
+pub mod Next
