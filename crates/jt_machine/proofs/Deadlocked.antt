@@ -15,10 +15,12 @@ use Rattle.jt_histories.specs.Jobs.{Has}
 use Rattle.jt_histories.specs.Rest.{AllStuck}
 use Rattle.jt_histories.proofs.Lists.{or_else}
 use Rattle.jt_shard.specs.Shards.{ShardState, MustWait, object_for}
-use Rattle.jt_step.specs.declared.start.Start.{Start}
-use Rattle.jt_step.specs.Tasks.{Run, Task, told_of, next_in, coming}
+use Rattle.jt_meaning.specs.declared.start.Start.{Start}
+use Rattle.jt_meaning.specs.Run.{Run}
+use Rattle.jt_meaning.specs.Next.{next_in}
+use Rattle.jt_step.specs.Tasks.{Task, told_of, coming}
 use Rattle.jt_machine.specs.declared.run.End.TheVariants as end
-use Rattle.jt_machine.specs.Machines.{logs_of, waiting_in, AreSettled, Waits, Runs, Ended}
+use Rattle.jt_machine.specs.Machines.{logs_of, waiting_in, AreSettled, IsWaiting, Runs, Ended}
 use Rattle.jt_machine.specs.Runs.{world_of}
 use Rattle.jt_machine.proofs.Shelf.{jobs_of, log_at}
 
@@ -42,9 +44,9 @@ found P (s ∷ ss) j a h = or_else (has_either j (map told_of (jobs_of s.waiting
 module _ (run : Run) (seeds : Seeds) (shards : List (ShardState Task)) (runs : Runs run seeds shards []) (settled : AreSettled shards) where
   stuck : AllStuck Start (world_of run seeds) (logs_of shards) (map told_of (waiting_in shards))
   stuck j h o e =
-      let f = found (λ k s. All (λ w. Waits run k w × MustWait told_of s.log w) s.waiting) shards j (λ k s at i d l. ((runs.each_shard k s at).waiting i d l, settled k s at i d l)) h in
+      let f = found (λ k s. All (λ w. IsWaiting run k w × MustWait told_of s.log w) s.waiting) shards j (λ k s at i d l. ((runs.each_shard k s at).waiting i d l, settled k s at i d l)) h in
       let k = f.0 in let s = f.1 in
-      let g = has_waiting (λ w. Waits run k w × MustWait told_of s.log w) s.waiting j f.3 f.4 in
+      let g = has_waiting (λ w. IsWaiting run k w × MustWait told_of s.log w) s.waiting j f.3 f.4 in
       let w = g.0 in
       let waits = g.1.0 in
       let here : coming w.0 ≡ next_in run w.0.path w.0.start (map note_reply w.0.log) = ap (λ r. next_in r w.0.path w.0.start (map note_reply w.0.log)) waits.job.of_run in

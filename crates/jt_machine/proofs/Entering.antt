@@ -2,7 +2,7 @@
 use Rattle.std.proofs.Common.{◌≡◌, ℕ, zero, suc, ◌+◌, ◌-◌, ◌<◌, ◌≤◌, ◌⊎◌, inl, inr, List, [], ◌∷◌, ◌++◌, Option, Some, None, Bool, true, false, ◌&&◌, not, cond, max, refl, sym, ap, ◌∙◌, subst, arith, length, map, get_or, set, append_assoc}
 use Rattle.std.specs.Prelude.{slice_get, if◌then◌else◌}
 use Rattle.std.specs.List.{All}
-use Rattle.std.proofs.lemmas.Bool.{false≢true, lt-ltb}
+use Rattle.std.proofs.lemmas.Bool.{false≢true}
 use Rattle.std.proofs.lemmas.List.{length-set, length-map, map_push, map-append, length-append}
 use Rattle.std.proofs.lemmas.Option.{slice_get_within}
 use Rattle.std.proofs.lemmas.List.Elements.{All-cons, All-head, All-tail}
@@ -12,13 +12,13 @@ use Rattle.jt_base.specs.declared.operation.Op.TheVariants as op
 use Rattle.jt_base.specs.declared.operation.Reply.{Reply}
 use Rattle.jt_base.specs.declared.run.Pool.TheVariants as pool
 use Rattle.jt_base.specs.declared.run.Seeds.{Seeds}
-use Rattle.jt_base.specs.Coming.{Next, Needs, Spawns, op_of, is_spawn}
+use Rattle.jt_base.specs.Coming.{Next, Needs, Spawns, op_of}
 use Rattle.jt_base.specs.Jobs.{Seat, Held, note_reply, last_note}
 use Rattle.jt_base.specs.Objects.{shard_of_object}
 use Rattle.jt_laws.specs.Entries.{object, shard, of_object, ends, In}
 use Rattle.jt_laws.specs.Lines.{is_main_end}
 use Rattle.jt_laws.specs.Objects.{reply_after}
-use Rattle.jt_laws.specs.Seats.{may_work, main_seat, seat_after, seat_by}
+use Rattle.jt_laws.specs.Seats.{may_work, main_seat, seat_by}
 use Rattle.jt_laws.specs.Tasks.{is_main, is_new, ok_if}
 use Rattle.jt_laws.specs.Histories.{World}
 use Rattle.jt_laws.proofs.Possible.{possible}
@@ -30,17 +30,21 @@ use Rattle.jt_program.specs.Plan.{BodyPlan}
 use Rattle.jt_shard.specs.Calls.{Enters}
 use Rattle.jt_shard.specs.Shards.{ShardState, object_for, next_entry, next_stamp}
 use Rattle.jt_shard.proofs.RunLaws.{laws_of}
-use Rattle.jt_step.specs.declared.start.Start.{Start}
+use Rattle.jt_meaning.specs.declared.start.Start.{Start}
 use Rattle.jt_step.specs.Laws as law
-use Rattle.jt_step.specs.Tasks.{Run, Task, told_of, next_in, coming_with, new_task, seat_at, ComesAfter}
+use Rattle.jt_meaning.specs.Run.{Run}
+use Rattle.jt_meaning.specs.Next.{next_in}
+use Rattle.jt_step.specs.Tasks.{Task, told_of, coming_with, new_task, seat_at, ComesAfter}
 use Rattle.jt_step.specs.Tasks as task
 use Rattle.jt_machine.specs.declared.run.End.{End}
 use Rattle.jt_machine.specs.declared.run.End.TheVariants as end
 use Rattle.jt_machine.specs.declared.turn.Follows.{Follows}
 use Rattle.jt_machine.specs.declared.turn.Follows.TheVariants as follows
-use Rattle.jt_machine.specs.Machines.{logs_of, waiting_in, IsJob, Waits, IsShard, MainGoesOn, MainEnds, Runs, EndsBy, Ended, stamps_left, jobs_in}
-use Rattle.jt_machine.specs.Runs.{world_of}
+use Rattle.jt_machine.specs.Machines.{logs_of, waiting_in, IsJob, IsWaiting, IsShard, MainGoesOn, MainEnds, Runs, EndsBy, Ended, Grows, stamps_left, jobs_in}
+use Rattle.jt_machine.specs.Runs.{world_of, worker_of, Grown}
 use Rattle.jt_machine.specs.Turns.{follows_by, IsChild, IsNext, Asks, left_by, Replied}
+use Rattle.jt_machine.proofs.Seated.{job_works}
+use Rattle.jt_machine.proofs.Workers.{grown_more}
 use Rattle.jt_machine.proofs.Shelf.{log_at, logs_set, set_each, waiting_same, stamps_set}
 
 -- ---- the laws of a run's world
@@ -63,20 +67,6 @@ asked run t o follows.Over n = ap op_of n.0
 asked run t o follows.Yields n = ap op_of n.0
 asked run t o follows.GoesOn n = ap op_of n.0
 asked run t o (follows.Makes child) n = ap op_of n.comes
-
-unbound : (seat : Seat) (o : Op) (w : ℕ) → is_spawn o ≡ false → seat_after seat o w ≡ seat
-unbound seat (op.Spawn path how) w n = absurd (cc)
-unbound seat o w n = refl
-
-needed_seat : (run : Run) (t : Task) (o : Op) → t.run ≡ run → task.coming t ≡ Some (Needs o) → seat_after t.seat o 0 ≡ t.seat
-needed_seat run t o e n = unbound t.seat o 0 (law.needs_no_spawn t.run.program t.run.limits.turns t.path t.start (map note_reply t.log) o n)
-
-same_seat : (run : Run) (t : Task) (o : Op) (f : Follows) → t.run ≡ run → IsNext run t o f → seat_after t.seat o 0 ≡ t.seat
-same_seat run t o (follows.Ends e) r n = needed_seat run t o r n.0
-same_seat run t o follows.Over r n = needed_seat run t o r n.0
-same_seat run t o follows.Yields r n = needed_seat run t o r n.0
-same_seat run t o follows.GoesOn r n = needed_seat run t o r n.0
-same_seat run t o (follows.Makes child) r n = ap (λ x. seat_after t.seat x 0) n.spawn
 
 -- ---- main's end
 
@@ -132,9 +122,9 @@ body_at (b ∷ bs) (suc i) h = body_at bs i (omega (arith, h))
 
 module _ (run : Run) (seeds : Seeds) (shards : List (ShardState Task)) (ready : List Task) (job : Task) (o : Op) (f : Follows) (k : ℕ) (s s' : ShardState Task) (job' : Task) (reply : Reply)
     (runs : Runs run seeds shards (job ∷ ready)) (asks : Asks run job o f) (at : slice_get shards k ≡ Some s) (here : shard_of_object (object_for told_of job o) ≡ k)
-    (enters : Enters told_of s job o 0 reply s' job') (same_run : job'.run ≡ job.run) where
+    (worker : ℕ) (by : worker ≡ worker_of run.sizes job.seat) (enters : Enters told_of s job o worker reply s' job') (same_run : job'.run ≡ job.run) where
   abbrev entry : Entry
-  entry = next_entry told_of s.log job o 0 reply
+  entry = next_entry told_of s.log job o worker reply
 
   abbrev world : World Start
   world = world_of run seeds
@@ -153,7 +143,7 @@ module _ (run : Run) (seeds : Seeds) (shards : List (ShardState Task)) (ready : 
     task = refl;
     comes = subst (λ r. op_of (next_in r job.path job.start (map note_reply job.log)) ≡ Some o) own_job.of_run (asked run job o f asks.follows);
     allowed = ap (λ l. reply_after (of_object (object entry) l) job.path o) (ap (λ n. get_or (logs_of shards) n []) here ∙ log_here) ∙ enters.allowed;
-    works = own_job.works;
+    works = ap (may_work run.sizes job.seat) by ∙ job_works run seeds (logs_of shards) (map told_of ((job ∷ ready) ++ waiting_in shards)) runs.worker runs.holds (told_of job) (inl refl);
     stamped = ap (λ l. max (last_note job.log) (last_entry l) + 1) (sym (ap (λ n. get_or (logs_of shards) n []) here ∙ log_here));
     within = subst (λ n. next_stamp told_of s.log job ≤ n) (runs.each_shard k s at).events enters.within;
   }
@@ -194,7 +184,7 @@ module _ (run : Run) (seeds : Seeds) (shards : List (ShardState Task)) (ready : 
       record {
         number = ap (λ (t : ShardState Task). t.number) enters.shard ∙ own.number;
         events = ap (λ (t : ShardState Task). t.events) enters.shard ∙ own.events;
-        waiting = subst (All (Waits run k)) (sym (ap (λ (t : ShardState Task). t.waiting) enters.shard)) own.waiting;
+        waiting = subst (All (IsWaiting run k)) (sym (ap (λ (t : ShardState Task). t.waiting) enters.shard)) own.waiting;
       }
 
   goes_on_now : is_main_end entry ≡ false → MainGoesOn (logs_of (set shards k s'))
@@ -218,7 +208,6 @@ module _ (run : Run) (seeds : Seeds) (shards : List (ShardState Task)) (ready : 
       let path : job'.path ≡ job.path = ap (λ (d : Held Start). d.path) enters.job in
       let start : job'.start ≡ job.start = ap (λ (d : Held Start). d.start) enters.job in
       let notes : job'.log ≡ job.log ++ note_of entry ∷ [] = ap (λ (d : Held Start). d.log) enters.job in
-      let seat : job'.seat ≡ job.seat = ap (λ (d : Held Start). d.seat) enters.job ∙ same_seat run job o f own_job.of_run asks.follows in
       let same : task.coming job' ≡ coming_with job reply =
       ap (λ r. next_in r job'.path job'.start (map note_reply job'.log)) same_run
       ∙ ap (λ p. next_in job.run p job'.start (map note_reply job'.log)) path
@@ -228,7 +217,6 @@ module _ (run : Run) (seeds : Seeds) (shards : List (ShardState Task)) (ready : 
       record {
         of_run = same_run ∙ own_job.of_run;
         comes = (now.0, ap op_of same ∙ now.1);
-        works = ap (λ t. may_work run.sizes t 0) seat ∙ own_job.works;
       }
 
   ready_jobs : All (IsJob run) ready
@@ -294,8 +282,8 @@ module _ (run : Run) (seeds : Seeds) (shards : List (ShardState Task)) (ready : 
   child_told : (c : Task) (n : IsChild run job o c) → told_of c ≡ child_job Start world entry n.start
   child_told c n =
       ap told_of n.made
-      ∙ ap (λ (t : Seat). record { path = n.path; start = n.start; seat = t; log = [] }) (child_seat c n ∙ sym (ap (λ x. seat_by run.sizes x 0) n.spawn))
-      ∙ ap (λ p. record { path = p; start = n.start; seat = seat_by run.sizes o 0; log = [] }) (sym (ap made_path n.spawn))
+      ∙ ap (λ (t : Seat). record { path = n.path; start = n.start; seat = t; log = [] }) (child_seat c n ∙ sym (ap (λ x. seat_by run.sizes x worker) n.spawn))
+      ∙ ap (λ p. record { path = p; start = n.start; seat = seat_by run.sizes o worker; log = [] }) (sym (ap made_path n.spawn))
 
   child_is_job : (c : Task) → IsChild run job o c → IsJob run c
   child_is_job c n =
@@ -303,7 +291,6 @@ module _ (run : Run) (seeds : Seeds) (shards : List (ShardState Task)) (ready : 
       record {
         of_run = ap (λ (t : Task). t.run) n.made;
         comes = (op.Begin, ap (λ (t : Task). op_of (task.coming t)) n.made ∙ ap op_of (law.begins run.program run.limits.turns n.path n.start b.0 b.1));
-        works = ap (λ (t : Task). may_work run.sizes t.seat 0) n.made ∙ ap (λ t. may_work run.sizes t 0) (child_seat c n) ∙ ap (λ b. b && true) (lt-ltb 0 run.sizes.default runs.worker);
       }
 
   replied_spawn : (c : Task) → IsChild run job o c → Runs run seeds (set shards k s') (job' ∷ c ∷ ready)
@@ -338,6 +325,13 @@ module _ (run : Run) (seeds : Seeds) (shards : List (ShardState Task)) (ready : 
     where
       falls : (a b x y l m n : ℕ) → a + (x - l) ≡ b + (y - m) → y ≡ x → m ≡ max n l + 1 → max n l + 1 ≤ x → a < b
       falls a b x y l m n e p q w = omega (arith, e, p, q, w)
+
+  pub entry_grows : Grows run seeds shards (set shards k s')
+  entry_grows from g =
+      subst (λ ls. Grown Start world from ls) (sym logs_after)
+      (subst (λ l. Grown Start world from (set (logs_of shards) k (l ++ entry ∷ []))) log_here
+      (subst (λ n. Grown Start world from (set (logs_of shards) n (get_or (logs_of shards) n [] ++ entry ∷ []))) here
+      (grown_more Start world (run_laws run seeds) (logs_of shards) (told_of job) rest entry runs.holds made by from g)))
 
   pub count_after : jobs_in (set shards k s') (left_by job' f ++ ready) ≤ jobs_in shards (job ∷ ready) + 1
   count_after =

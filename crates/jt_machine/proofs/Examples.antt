@@ -12,8 +12,9 @@ use Rattle.jt_laws.specs.Lines.{lines_of}
 use Rattle.jt_program.specs.declared.code.Literal.TheVariants as literal
 use Rattle.jt_program.specs.Plan.{Plan, ProgramPlan}
 use Rattle.jt_program.specs.Plan as plan
-use Rattle.jt_step.specs.Meaning.{meaning, go}
-use Rattle.jt_step.specs.Tasks.{Run, main_start}
+use Rattle.jt_meaning.specs.Meaning.{meaning, go}
+use Rattle.jt_meaning.specs.Run.{Run}
+use Rattle.jt_meaning.specs.Next.{main_start}
 use Rattle.jt_machine.specs.declared.run.End.TheVariants.{Ok, MainFailed, EventLimit}
 use Rattle.jt_machine.specs.Runs.{IsRun, one_worker}
 

@@ -8,10 +8,12 @@ use Rattle.std.proofs.lemmas.List.{length-append}
 use Rattle.std.proofs.lemmas.List.Sorted.{IsPermutation-append_left, IsPermutation-remove, length_permutation}
 use Rattle.jt_base.specs.declared.run.Seeds.{Seeds}
 use Rattle.jt_shard.specs.Shards.{ShardState}
-use Rattle.jt_step.specs.Tasks.{Run, Task}
+use Rattle.jt_meaning.specs.Run.{Run}
+use Rattle.jt_step.specs.Tasks.{Task}
+use Rattle.jt_machine.specs.declared.run.End.{End}
 use Rattle.jt_machine.specs.declared.turn.Turn.{Turn}
 use Rattle.jt_machine.specs.declared.turn.Turn.TheVariants as turn
-use Rattle.jt_machine.specs.Machines.{waiting_in, AreSettled, Runs, Falls, stamps_left, jobs_in}
+use Rattle.jt_machine.specs.Machines.{waiting_in, AreSettled, Runs, Ended, Falls, Grows, stamps_left, jobs_in}
 use Rattle.jt_machine.specs.Turns.{Leaves, Turns}
 use Rattle.jt_machine.proofs.Following.{runs_permuted}
 
@@ -28,13 +30,14 @@ falls_further a xs l b ys m c zs n f g = record { total = (let x = f.total in le
 
 module _ (run : Run) (seeds : Seeds) (shards0 : List (ShardState Task)) (ready0 : List Task) (job0 : Task) where
   pub slice_begins : Runs run seeds shards0 (job0 ∷ ready0) → AreSettled shards0 → Leaves run seeds shards0 ready0 job0 shards0 (job0 ∷ ready0) (length ready0)
-  slice_begins r s = record { runs = r; settled = s; falls = record { total = omega arith; fewer = inr (refl, omega arith) } }
+  slice_begins r s = record { runs = r; settled = s; grows = λ l g. g; falls = record { total = omega arith; fewer = inr (refl, omega arith) } }
 
   module _ (shards : List (ShardState Task)) (ready : List Task) (job : Task) (sofar : Leaves run seeds shards0 ready0 job0 shards (job ∷ ready) (length ready)) where
     pub slice_goes_on : (job' : Task) (shards' : List (ShardState Task)) (ready' : List Task) → Turns run seeds shards ready job (turn.GoesOn job') shards' ready' → Leaves run seeds shards0 ready0 job0 shards' (job' ∷ ready') (length ready')
     slice_goes_on job' shards' ready' t = record {
       runs = t.0.runs;
       settled = t.0.settled;
+      grows = λ l g. t.0.grows l (sofar.grows l g);
       falls = falls_further shards0 (job0 ∷ ready0) (length ready0) shards (job ∷ ready) (length ready) shards' (job' ∷ ready') (length ready') sofar.falls t.0.falls;
     }
 
@@ -42,8 +45,12 @@ module _ (run : Run) (seeds : Seeds) (shards0 : List (ShardState Task)) (ready0 
     slice_is_over shards' ready' t = record {
       runs = t.runs;
       settled = t.settled;
+      grows = λ l g. t.grows l (sofar.grows l g);
       falls = falls_further shards0 (job0 ∷ ready0) (length ready0) shards (job ∷ ready) (length ready) shards' ready' (length ready') sofar.falls t.falls;
     }
+
+    pub slice_ends : (e : End) (shards' : List (ShardState Task)) (ready' : List Task) → Turns run seeds shards ready job (turn.Ended e) shards' ready' → Ended run seeds shards' e × Grows run seeds shards0 shards'
+    slice_ends e shards' ready' t = (t.0, λ l g. t.1 l (sofar.grows l g))
 
 -- stamps, and for each all turns; and the turns that are left
 pub slice_smaller : (limit s s' t t' : ℕ) → (s' < s) ⊎ ((s' ≡ s) × (limit - t' < limit - t)) → s' * (limit + 1) + (limit - t') < s * (limit + 1) + (limit - t)
@@ -96,6 +103,10 @@ module _ (run : Run) (seeds : Seeds) (shards : List (ShardState Task)) (ready : 
 
   pub work_now : (shards' : List (ShardState Task)) (ready' : List Task) → Leaves run seeds shards1 ready1 job shards' ready' (length ready') → work_left shards' ready' < work_left shards ready
   work_now shards' ready' l = work_falls run seeds shards ready job ready1 picked shards' ready' (subst (λ b. Leaves run seeds b ready1 job shards' ready' (length ready')) same l)
+
+-- what the logs have grown from, through what changes no shard
+pub grows_through : (run : Run) (seeds : Seeds) (shards0 shards shards1 shards' : List (ShardState Task)) → Grows run seeds shards0 shards → shards1 ≡ shards → Grows run seeds shards1 shards' → Grows run seeds shards0 shards'
+grows_through run seeds shards0 shards shards1 shards' a e b l g = b l (subst (λ s. Grows run seeds shards0 s) (sym e) a l g)
 
 -- one is taken out of the list
 pub taken_out : {X : Type 0} (xs : List X) (i : ℕ) (x y : X) (ys : List X) → slice_get xs i ≡ Some y → x ≡ y → ys ≡ remove xs i → IsPermutation xs (x ∷ ys)

@@ -1,6 +1,6 @@
 -- The history at the end of a run.
 use Rattle.std.proofs.Common.{◌≡◌, ℕ, inl, inr, List, [], ◌∷◌, Some, None, Bool, true, false, cond, nat_eq, refl, sym, ap, ◌∙◌, subst, get_or}
-use Rattle.std.proofs.lemmas.Bool.{false≢true, eq-eqb}
+use Rattle.std.proofs.lemmas.Bool.{false≢true}
 use Rattle.jt_base.specs.declared.entry.Entry.{Entry}
 use Rattle.jt_base.specs.declared.operation.Op.{Op}
 use Rattle.jt_base.specs.declared.operation.Op.TheVariants as op
@@ -9,16 +9,19 @@ use Rattle.jt_laws.specs.Entries.{shard, In}
 use Rattle.jt_laws.specs.Lines.{is_main_end, main_end, cut_at_main_end}
 use Rattle.jt_histories.specs.Merges.{IsMerge, AreLogs}
 use Rattle.jt_histories.specs.Rest.{AtRest, EndsIt, MeetsLimit}
-use Rattle.jt_histories.proofs.Lists.{or_else, by_test, in_filter, filter_in}
+use Rattle.jt_histories.proofs.Lists.{or_else, by_test, filter_in}
 use Rattle.jt_histories.proofs.Resting.{holds_logs, merged_is, cut_is_legal, merge_at_rest, merge_meets}
 use Rattle.jt_shard.specs.Shards.{ShardState}
-use Rattle.jt_step.specs.declared.start.Start.{Start}
+use Rattle.jt_meaning.specs.declared.start.Start.{Start}
 use Rattle.jt_step.specs.Laws as law
-use Rattle.jt_step.specs.Tasks.{Run, Task}
+use Rattle.jt_meaning.specs.Run.{Run}
+use Rattle.jt_step.specs.Tasks.{Task}
 use Rattle.jt_machine.specs.declared.run.End.{End}
 use Rattle.jt_machine.specs.declared.run.End.TheVariants as end
-use Rattle.jt_machine.specs.Machines.{logs_of, MainGoesOn, MainEnds, EndsBy, Ended}
-use Rattle.jt_machine.specs.Runs.{world_of, IsEnd, IsRun}
+use Rattle.jt_machine.specs.Machines.{first_shards, logs_of, MainGoesOn, MainEnds, EndsBy, Ended, Grows}
+use Rattle.jt_machine.specs.Runs.{world_of, IsEnd, IsRun, AllByWorkers, FurtherByWorkers}
+use Rattle.jt_machine.proofs.Starting.{none_begun}
+use Rattle.jt_machine.proofs.Workers.{log_has, grown_none, cut_by, all_by}
 
 -- ---- main's end in a history
 
@@ -57,17 +60,14 @@ cut_end (e ∷ es) = by_end (is_main_end e) refl (cut_end es)
 
 -- ---- entries of the merge are those of the logs
 
-in_log : (logs : List (List Entry)) (h : List Entry) → IsMerge logs h → (x : Entry) → In x h → In x (get_or logs (shard x) [])
-in_log logs h m x i = subst (In x) (m.logged (shard x)) (in_filter (λ y. nat_eq (shard y) (shard x)) x h i (eq-eqb (shard x) (shard x) refl))
-
 in_merge : (logs : List (List Entry)) (h : List Entry) → IsMerge logs h → (x : Entry) (k : ℕ) → In x (get_or logs k []) → In x h
 in_merge logs h m x k i = (filter_in (λ y. nat_eq (shard y) k) x h (subst (In x) (sym (m.logged k)) i)).0
 
 merge_goes_on : (logs : List (List Entry)) (h : List Entry) → IsMerge logs h → MainGoesOn logs → (x : Entry) → In x h → is_main_end x ≡ false
-merge_goes_on logs h m g x i = g (shard x) x (in_log logs h m x i)
+merge_goes_on logs h m g x i = g (shard x) x (log_has logs h m x i)
 
 merge_ends : (logs : List (List Entry)) (h : List Entry) (o : Op) → IsMerge logs h → MainEnds logs o → main_end h ≡ Some o
-merge_ends logs h o m e = end_is h o (λ x i y. e.only (shard x) x (in_log logs h m x i) y) e.entry (in_merge logs h m e.entry (shard e.entry) e.there) e.ends
+merge_ends logs h o m e = end_is h o (λ x i y. e.only (shard x) x (log_has logs h m x i) y) e.entry (in_merge logs h m e.entry (shard e.entry) e.there) e.ends
 
 -- ---- the run
 
@@ -103,3 +103,11 @@ module _ (run : Run) (seeds : Seeds) (shards : List (ShardState Task)) (e : End)
     whole = cut_twice all;
     ended = end_where all m e ended.ends;
   })
+
+  -- from shards without entries, each entry is made by its task's worker
+  pub run_by : (first : List (ShardState Task)) → first ≡ first_shards 16 run.limits.events → Grows run seeds first shards → (h all : List Entry) → IsMerge (logs_of shards) all → h ≡ cut_at_main_end all → AllByWorkers Start (world_of run seeds) h
+  run_by first s grows h all m q =
+      let grown = grows (logs_of first) (grown_none Start (world_of run seeds) (logs_of first)) in
+      all_by Start (world_of run seeds) (logs_of first) h (λ k x i. none_begun run.limits.events k x (subst (λ l. In x (get_or (logs_of l) k [])) s i))
+      (subst (FurtherByWorkers Start (world_of run seeds) (logs_of first)) (sym q)
+      (cut_by Start (world_of run seeds) (logs_of first) all (merged_is Start (world_of run seeds) (logs_of shards) ended.jobs all ended.holds m) (grown.workers all m)))

@@ -6,8 +6,9 @@ use Rattle.jt_base.specs.declared.run.Seeds.{Seeds}
 use Rattle.jt_histories.specs.Jobs.{Holds}
 use Rattle.jt_histories.proofs.Turning.{moved_keeps}
 use Rattle.jt_shard.specs.Shards.{ShardState}
-use Rattle.jt_step.specs.declared.start.Start.{Start}
-use Rattle.jt_step.specs.Tasks.{Run, Task, told_of}
+use Rattle.jt_meaning.specs.declared.start.Start.{Start}
+use Rattle.jt_meaning.specs.Run.{Run}
+use Rattle.jt_step.specs.Tasks.{Task, told_of}
 use Rattle.jt_machine.specs.declared.run.End.{End}
 use Rattle.jt_machine.specs.declared.turn.Follows.{Follows}
 use Rattle.jt_machine.specs.declared.turn.Follows.TheVariants as follows
@@ -33,6 +34,7 @@ after_permuted : (run : Run) (seeds : Seeds) (shards : List (ShardState Task)) (
 after_permuted run seeds shards jobs shards' left right p g = record {
   runs = runs_permuted run seeds shards' left right p g.runs;
   settled = g.settled;
+  logs = g.logs;
   stamps = g.stamps;
   count = length_permutation (left ++ waiting_in shards') (right ++ waiting_in shards') (IsPermutation-append_left (waiting_in shards') left right p) ∙ g.count;
 }
@@ -41,12 +43,14 @@ module _ (run : Run) (seeds : Seeds) (shards : List (ShardState Task)) (k : ℕ)
   pub ended_follows : (e : End) → Replied run seeds shards ready job (follows.Ends e) → Followed run seeds shards ready job (follows.Ends e) (turn.Ended e) shards' ready'
   ended_follows e r =
       let some = w.some in
-      let logs : logs_of shards' ≡ logs_of shards = ap logs_of some.set ∙ logs_same shards k some.before some.after some.there (ap (λ (t : ShardState Task). t.log) some.kept) in
-      record {
-        jobs = r.jobs;
-        holds = subst (λ ls. Holds Start (world_of run seeds) ls r.jobs) (sym logs) r.holds;
-        ends = subst (λ ls. EndsBy (world_of run seeds) ls r.jobs e) (sym logs) r.ends;
-      }
+      let logs : logs_of shards' ≡ logs_of shards = ap logs_of some.set ∙ logs_same shards k some.before some.after some.there (ap (λ (t : ShardState Task). t.log) some.kept) in (
+        record {
+          jobs = r.jobs;
+          holds = subst (λ ls. Holds Start (world_of run seeds) ls r.jobs) (sym logs) r.holds;
+          ends = subst (λ ls. EndsBy (world_of run seeds) ls r.jobs e) (sym logs) r.ends;
+        },
+        logs,
+      )
 
   pub over_follows : Replied run seeds shards ready job follows.Over → Followed run seeds shards ready job follows.Over turn.Left shards' ready'
   over_follows r = woken_after run seeds shards k [] ready shards' ready' r settled w

@@ -1,3 +1,5 @@
+pub mod Workers
+pub mod Seated
 pub mod Shelf
 pub mod Moving
 pub mod Waking
@@ -7,6 +9,6 @@ pub mod Serving
 pub mod Turning
 pub mod Falling
 pub mod Deadlocked
-pub mod Finish
 pub mod Starting
+pub mod Finish
 mod Examples

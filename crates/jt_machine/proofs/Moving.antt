@@ -11,9 +11,10 @@ use Rattle.jt_base.specs.Jobs.{Held}
 use Rattle.jt_histories.specs.Jobs.{Holds}
 use Rattle.jt_histories.proofs.Turning.{moved_keeps}
 use Rattle.jt_shard.specs.Shards.{ShardState, IsSettled}
-use Rattle.jt_step.specs.declared.start.Start.{Start}
-use Rattle.jt_step.specs.Tasks.{Run, Task, told_of}
-use Rattle.jt_machine.specs.Machines.{logs_of, waiting_in, AreSettled, SettledBut, IsJob, Waits, IsShard, MainGoesOn, Runs, jobs_in}
+use Rattle.jt_meaning.specs.declared.start.Start.{Start}
+use Rattle.jt_meaning.specs.Run.{Run}
+use Rattle.jt_step.specs.Tasks.{Task, told_of}
+use Rattle.jt_machine.specs.Machines.{logs_of, waiting_in, AreSettled, SettledBut, IsJob, IsWaiting, IsShard, MainGoesOn, Runs, jobs_in}
 use Rattle.jt_machine.specs.Runs.{world_of}
 use Rattle.jt_machine.proofs.Shelf.{jobs_of, set_each, logs_same, jobs_moved}
 
@@ -22,7 +23,7 @@ pub record Moves (run : Run) (k : ℕ) (s : ShardState Task) (jobs : List Task) 
   pub number : s'.number ≡ s.number
   pub events : s'.events ≡ s.events
   pub log : s'.log ≡ s.log
-  pub waiting : All (Waits run k) s'.waiting
+  pub waiting : All (IsWaiting run k) s'.waiting
   pub each_job : All (IsJob run) jobs'
   pub moved : IsPermutation (jobs ++ jobs_of s.waiting) (jobs' ++ jobs_of s'.waiting)
 

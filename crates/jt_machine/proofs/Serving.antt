@@ -20,19 +20,23 @@ use Rattle.jt_histories.proofs.Orders.{shard_small}
 use Rattle.jt_shard.specs.Calls.{Enters, MeetsLimit, Parks}
 use Rattle.jt_shard.specs.Serving.{serves}
 use Rattle.jt_shard.specs.Shards.{ShardState, object_for, reply_now, next_entry, next_stamp, MustWait, IsSettled, HasRoom}
-use Rattle.jt_step.specs.declared.start.Start.{Start}
-use Rattle.jt_step.specs.Tasks.{Run, Task, ComesAfter, told_of, next_in, coming, coming_with}
+use Rattle.jt_meaning.specs.declared.start.Start.{Start}
+use Rattle.jt_meaning.specs.Run.{Run}
+use Rattle.jt_meaning.specs.Next.{next_in}
+use Rattle.jt_step.specs.Tasks.{Task, ComesAfter, told_of, coming, coming_with}
 use Rattle.jt_machine.specs.declared.run.End.TheVariants as end
 use Rattle.jt_machine.specs.declared.turn.Follows.{Follows}
 use Rattle.jt_machine.specs.declared.turn.Follows.TheVariants as follows
 use Rattle.jt_machine.specs.declared.turn.Turn.{Turn}
 use Rattle.jt_machine.specs.declared.turn.Turn.TheVariants as turn
-use Rattle.jt_machine.specs.Machines.{logs_of, waiting_in, AreSettled, SettledBut, IsJob, Waits, Runs, Ended, Falls, stamps_left, jobs_in}
+use Rattle.jt_machine.specs.Machines.{logs_of, waiting_in, AreSettled, SettledBut, IsJob, IsWaiting, Runs, Ended, Falls, Grows, stamps_left, jobs_in}
+use Rattle.jt_machine.specs.Runs.{world_of, worker_of, Grown}
 use Rattle.jt_machine.specs.Turns.{IsNext, Asks, left_by, Replied, Followed, Leaves, Serves}
-use Rattle.jt_machine.proofs.Shelf.{jobs_of, get_set_same, set_twice, log_at, waiting_same, stamps_set, room_of}
+use Rattle.jt_machine.proofs.Shelf.{jobs_of, get_set_same, set_twice, log_at, logs_same, waiting_same, stamps_set, room_of}
 use Rattle.jt_machine.proofs.Moving.{Moves, moved_runs, moved_count, settled_set, settled_but, job_replaced}
 use Rattle.jt_machine.proofs.Waking.{shard_read}
-use Rattle.jt_machine.proofs.Entering.{asked, replied, stamps_fall, count_after}
+use Rattle.jt_machine.proofs.Entering.{asked, replied, stamps_fall, count_after, entry_grows}
+use Rattle.jt_machine.proofs.Seated.{job_works}
 
 -- ---- what is known of a job by its run and its description
 
@@ -60,8 +64,8 @@ module _ (run : Run) (t u : Task) (told : told_of u ≡ told_of t) (same_run : u
 
   pub job_same : IsJob run t → IsJob run u
   job_same j =
-      let k = subst (λ (v : Task). (v.run ≡ run) × (op_of (coming v) ≡ Some j.comes.0) × (may_work run.sizes v.seat 0 ≡ true)) (sym same_bare) (j.of_run, j.comes.1, j.works) in
-      record { of_run = k.0; comes = (j.comes.0, k.1); works = k.2 }
+      let k = subst (λ (v : Task). (v.run ≡ run) × (op_of (coming v) ≡ Some j.comes.0)) (sym same_bare) (j.of_run, j.comes.1) in
+      record { of_run = k.0; comes = (j.comes.0, k.1) }
 
   pub asks_same : (o : Op) (f : Follows) → Asks run t o f → Asks run u o f
   asks_same o f a =
@@ -74,7 +78,8 @@ module _ (run : Run) (t u : Task) (told : told_of u ≡ told_of t) (same_run : u
 -- ---- one turn
 
 module _ (run : Run) (seeds : Seeds) (shards : List (ShardState Task)) (ready : List Task) (job : Task) (o : Op) (f : Follows) (k : ℕ)
-    (runs : Runs run seeds shards (job ∷ ready)) (settled : AreSettled shards) (asks : Asks run job o f) (here : k ≡ shard_of_object (object_for told_of job o)) where
+    (runs : Runs run seeds shards (job ∷ ready)) (settled : AreSettled shards) (asks : Asks run job o f) (here : k ≡ shard_of_object (object_for told_of job o))
+    (worker : ℕ) (by : worker ≡ worker_of run.sizes job.seat) where
   pub within : k < length shards
   within = let s = shard_small (object_for told_of job o) in let l = runs.sixteen in omega (arith, s, l, here)
 
@@ -87,6 +92,9 @@ module _ (run : Run) (seeds : Seeds) (shards : List (ShardState Task)) (ready : 
 
     pub within1 : k < length (set shards k s1)
     within1 = let l = length-set shards k s1 in let w = within in omega (arith, l, w)
+
+    by_now : worker ≡ worker_of run.sizes job1.seat
+    by_now = by ∙ ap (λ (d : Held Start). worker_of run.sizes d.seat) (sym told)
 
     job_now : IsJob run job1
     job_now = job_same run job job1 told same_run (All-head (IsJob run) job ready runs.each_job)
@@ -101,7 +109,7 @@ module _ (run : Run) (seeds : Seeds) (shards : List (ShardState Task)) (ready : 
           number = ap (λ (t : ShardState Task). t.number) kept;
           events = ap (λ (t : ShardState Task). t.events) kept;
           log = ap (λ (t : ShardState Task). t.log) kept;
-          waiting = subst (All (Waits run k)) (sym (ap (λ (t : ShardState Task). t.waiting) kept)) (runs.each_shard k s0 at0).waiting;
+          waiting = subst (All (IsWaiting run k)) (sym (ap (λ (t : ShardState Task). t.waiting) kept)) (runs.each_shard k s0 at0).waiting;
           each_job = runs.each_job;
           moved = subst (λ ws. IsPermutation ((job ∷ ready) ++ jobs_of s0.waiting) ((job ∷ ready) ++ jobs_of ws)) (sym (ap (λ (t : ShardState Task). t.waiting) kept)) (IsPermutation-refl ((job ∷ ready) ++ jobs_of s0.waiting));
         }))
@@ -119,6 +127,9 @@ module _ (run : Run) (seeds : Seeds) (shards : List (ShardState Task)) (ready : 
 
     count_now : jobs_in (set shards k s1) (job1 ∷ ready) ≡ jobs_in shards (job ∷ ready)
     count_now = ap (λ l. length ((job1 ∷ ready) ++ l)) (waiting_same shards k s0 s1 at0 (ap (λ (t : ShardState Task). t.waiting) kept))
+
+    grows_now : Grows run seeds shards (set shards k s1)
+    grows_now from g = subst (Grown Start (world_of run seeds) from) (sym (logs_same shards k s0 s1 at0 (ap (λ (t : ShardState Task). t.log) kept))) g
 
     here_now : shard_of_object (object_for told_of job1 o) ≡ k
     here_now = ap (λ (d : Held Start). shard_of_object (object_of d.path o)) told ∙ sym here
@@ -139,12 +150,12 @@ module _ (run : Run) (seeds : Seeds) (shards : List (ShardState Task)) (ready : 
       module _ (s2 : ShardState Task) (job2 : Task) where
         -- ---- it is answered
 
-        module _ (reply : Reply) (enters : Enters told_of s job1 o 0 reply s2 job2) (run2 : job2.run ≡ job1.run) where
-          enters_now : Enters told_of s1 job1 o 0 reply s2 job2
-          enters_now = subst (λ t. Enters told_of t job1 o 0 reply s2 job2) same enters
+        module _ (reply : Reply) (enters : Enters told_of s job1 o worker reply s2 job2) (run2 : job2.run ≡ job1.run) where
+          enters_now : Enters told_of s1 job1 o worker reply s2 job2
+          enters_now = subst (λ t. Enters told_of t job1 o worker reply s2 job2) same enters
 
           pub done_replied : Replied run seeds (set (set shards k s1) k s2) ready job2 f
-          done_replied = replied run seeds (set shards k s1) ready job1 o f k s1 s2 job2 reply runs_now asks_now at1 here_now enters_now run2
+          done_replied = replied run seeds (set shards k s1) ready job1 o f k s1 s2 job2 reply runs_now asks_now at1 here_now worker by_now enters_now run2
 
           pub done_settled : SettledBut k (set (set shards k s1) k s2)
           done_settled = settled_but (set shards k s1) k s2 settled_now
@@ -153,22 +164,27 @@ module _ (run : Run) (seeds : Seeds) (shards : List (ShardState Task)) (ready : 
           done_within = let l = length-set (set shards k s1) k s2 in let w = within1 in omega (arith, l, w)
 
           further : (shards3 : List (ShardState Task)) (jobs3 : List Task) → stamps_left shards3 ≡ stamps_left (set (set shards k s1) k s2) → stamps_left shards3 < stamps_left shards
-          further shards3 jobs3 e = let a = stamps_fall run seeds (set shards k s1) ready job1 o f k s1 s2 job2 reply runs_now asks_now at1 here_now enters_now run2 in let b = stamps_now in omega (arith, a, b, e)
+          further shards3 jobs3 e = let a = stamps_fall run seeds (set shards k s1) ready job1 o f k s1 s2 job2 reply runs_now asks_now at1 here_now worker by_now enters_now run2 in let b = stamps_now in omega (arith, a, b, e)
 
           falls : (shards3 : List (ShardState Task)) (jobs3 : List Task) (ready3 : ℕ) → stamps_left shards3 ≡ stamps_left (set (set shards k s1) k s2) → jobs_in shards3 jobs3 ≡ jobs_in (set (set shards k s1) k s2) (left_by job2 f ++ ready) → Falls shards (job ∷ ready) (length ready) shards3 jobs3 ready3
           falls shards3 jobs3 ready3 e c =
               let a = further shards3 jobs3 e in
-              let n = count_after run seeds (set shards k s1) ready job1 o f k s1 s2 job2 reply runs_now asks_now at1 here_now enters_now run2 in
+              let n = count_after run seeds (set shards k s1) ready job1 o f k s1 s2 job2 reply runs_now asks_now at1 here_now worker by_now enters_now run2 in
               let m = count_now in
               record { total = omega (arith, a, n, m, c); fewer = inl a }
 
+          done_grows : (shards3 : List (ShardState Task)) → logs_of shards3 ≡ logs_of (set (set shards k s1) k s2) → Grows run seeds shards shards3
+          done_grows shards3 e from g =
+              subst (Grown Start (world_of run seeds) from) (sym e)
+              (entry_grows run seeds (set shards k s1) ready job1 o f k s1 s2 job2 reply runs_now asks_now at1 here_now worker by_now enters_now run2 from (grows_now from g))
+
           pub done_turns : (t : Turn) (shards3 : List (ShardState Task)) (ready3 : List Task) → Followed run seeds (set (set shards k s1) k s2) ready job2 f t shards3 ready3 → Serves run seeds shards ready job t shards3 ready3
           done_turns (turn.GoesOn job3) shards3 ready3 g = (
-            record { runs = g.1.runs; settled = g.1.settled; falls = falls shards3 (job3 ∷ ready3) (length ready3) g.1.stamps g.1.count },
+            record { runs = g.1.runs; settled = g.1.settled; grows = done_grows shards3 g.1.logs; falls = falls shards3 (job3 ∷ ready3) (length ready3) g.1.stamps g.1.count },
             further shards3 (job3 ∷ ready3) g.1.stamps,
           )
-          done_turns turn.Left shards3 ready3 g = record { runs = g.runs; settled = g.settled; falls = falls shards3 ready3 (length ready3) g.stamps g.count }
-          done_turns (turn.Ended e) shards3 ready3 g = g
+          done_turns turn.Left shards3 ready3 g = record { runs = g.runs; settled = g.settled; grows = done_grows shards3 g.logs; falls = falls shards3 ready3 (length ready3) g.stamps g.count }
+          done_turns (turn.Ended e) shards3 ready3 g = (g.0, done_grows shards3 g.1)
 
         -- ---- it isn't, and nothing changed
 
@@ -177,20 +193,20 @@ module _ (run : Run) (seeds : Seeds) (shards : List (ShardState Task)) (ready : 
           still = set_twice shards k s1 s2 ∙ ap (λ t. set shards k t) (shard2 ∙ same)
 
           -- the limit on stamps
-          pub limit_turns : (given : Op) → MeetsLimit told_of s job1 o given s2 job2 → Ended run seeds (set (set shards k s1) k s2) end.EventLimit
-          limit_turns given m = subst (λ l. Ended run seeds l end.EventLimit) (sym still) (record {
+          limit_ends : (given : Op) → MeetsLimit told_of s job1 o given s2 job2 → Ended run seeds (set (set shards k s1) k s2) end.EventLimit
+          limit_ends given m = subst (λ l. Ended run seeds l end.EventLimit) (sym still) (record {
             jobs = map told_of ((job1 ∷ ready) ++ waiting_in (set shards k s1));
             holds = runs_now.holds;
             ends = (
               runs_now.goes_on,
               told_of job1,
-              next_entry told_of s1.log job1 o 0 m.allowed.0,
+              next_entry told_of s1.log job1 o worker m.allowed.0,
               inl refl,
               record {
                 task = refl;
                 comes = subst (λ r. op_of (next_in r job1.path job1.start (map note_reply job1.log)) ≡ Some o) job_now.of_run (asked run job1 o f asks_now.follows);
                 allowed = ap (λ l. reply_after (of_object (object_for told_of job1 o) l) job1.path o) (log_here ∙ sym (ap (λ (t : ShardState Task). t.log) same)) ∙ m.allowed.1;
-                works = job_now.works;
+                works = ap (may_work run.sizes job1.seat) by_now ∙ job_works run seeds (logs_of (set shards k s1)) (map told_of ((job1 ∷ ready) ++ waiting_in (set shards k s1))) runs.worker runs_now.holds (told_of job1) (inl refl);
                 beyond = beyond m;
               },
             );
@@ -205,9 +221,12 @@ module _ (run : Run) (seeds : Seeds) (shards : List (ShardState Task)) (ready : 
                   (subst (λ n. n < next_stamp told_of s1.log job1) (runs_now.each_shard k s1 at1).events
                   (subst (λ (t : ShardState Task). t.events < next_stamp told_of t.log job1) same m.beyond))
 
+          pub limit_turns : (given : Op) → MeetsLimit told_of s job1 o given s2 job2 → Ended run seeds (set (set shards k s1) k s2) end.EventLimit × Grows run seeds shards (set (set shards k s1) k s2)
+          limit_turns given m = (limit_ends given m, subst (Grows run seeds shards) (sym still) grows_now)
+
           -- the job waits
           module _ (given : Op) (op_same : given ≡ o) (s3 : ShardState Task) (parks : Parks told_of s1 job1 o s3) (settled3 : IsSettled told_of s3) where
-            waits : Waits run k (job1, o)
+            waits : IsWaiting run k (job1, o)
             waits = record { job = job_now; comes = asked run job1 o f asks_now.follows; here = here_now }
 
             moves : Moves run k s1 (job1 ∷ ready) s3 ready
@@ -217,7 +236,7 @@ module _ (run : Run) (seeds : Seeds) (shards : List (ShardState Task)) (ready : 
                   number = ap (λ (t : ShardState Task). t.number) parks.kept;
                   events = ap (λ (t : ShardState Task). t.events) parks.kept;
                   log = ap (λ (t : ShardState Task). t.log) parks.kept;
-                  waiting = All-permutation (Waits run k) ((job1, o) ∷ s1.waiting) s3.waiting parks.waiting (All-cons (Waits run k) (job1, o) s1.waiting waits own.waiting);
+                  waiting = All-permutation (IsWaiting run k) ((job1, o) ∷ s1.waiting) s3.waiting parks.waiting (All-cons (IsWaiting run k) (job1, o) s1.waiting waits own.waiting);
                   each_job = All-tail (IsJob run) job1 ready runs_now.each_job;
                   moved = IsPermutation-trans ((job1 ∷ ready) ++ jobs_of s1.waiting) (ready ++ job1 ∷ jobs_of s1.waiting) (ready ++ jobs_of s3.waiting)
                       (IsPermutation-sym (ready ++ job1 ∷ jobs_of s1.waiting) (job1 ∷ (ready ++ jobs_of s1.waiting)) (IsPermutation-middle ready job1 (jobs_of s1.waiting)))
@@ -235,6 +254,7 @@ module _ (run : Run) (seeds : Seeds) (shards : List (ShardState Task)) (ready : 
                 subst (λ l. Leaves run seeds shards ready job l ready (length ready)) (sym now) (record {
                   runs = moved_runs run seeds (set shards k s1) k s1 s3 (job1 ∷ ready) ready runs_now at1 moves;
                   settled = settled_set (set shards k s1) k s3 (λ j t e n. settled_now j t e) settled3;
+                  grows = λ from g. subst (Grown Start (world_of run seeds) from) (sym (logs_same (set shards k s1) k s1 s3 at1 (ap (λ (t : ShardState Task). t.log) parks.kept))) (grows_now from g);
                   falls = record { total = omega (arith, stamps, count); fewer = inr (stamps, omega arith) };
                 })
 

@@ -1,7 +1,6 @@
 -- The machine at the beginning.
-use Rattle.std.proofs.Common.{◌≡◌, ℕ, zero, suc, ◌<◌, ◌≤◌, ◌⊎◌, inl, inr, List, [], ◌∷◌, ◌++◌, Some, true, ◌&&◌, refl, sym, ap, ◌∙◌, subst, arith, length, get_or, replicate}
+use Rattle.std.proofs.Common.{◌≡◌, ℕ, zero, suc, ◌<◌, ◌≤◌, ◌⊎◌, inl, inr, List, [], ◌∷◌, ◌++◌, Some, refl, sym, ap, ◌∙◌, subst, arith, length, get_or, replicate}
 use Rattle.std.specs.Prelude.{slice_get}
-use Rattle.std.proofs.lemmas.Bool.{lt-ltb}
 use Rattle.std.proofs.lemmas.List.{length_push}
 use Rattle.std.proofs.lemmas.List.Elements.{All-nil, All-cons}
 use Rattle.jt_base.specs.declared.entry.Entry.{Entry}
@@ -13,10 +12,12 @@ use Rattle.jt_laws.specs.Entries.{In}
 use Rattle.jt_histories.proofs.Start.{holds_start}
 use Rattle.jt_histories.proofs.Lists.{or_else}
 use Rattle.jt_shard.specs.Shards.{ShardState, empty_shard, IsSettled, MustWait}
-use Rattle.jt_step.specs.declared.start.Start.{Start}
+use Rattle.jt_meaning.specs.declared.start.Start.{Start}
 use Rattle.jt_step.specs.Laws as law
-use Rattle.jt_step.specs.Tasks.{Run, Task, told_of, main_start, new_task}
-use Rattle.jt_machine.specs.Machines.{first_shards, AreSettled, IsJob, Waits, IsShard, Runs}
+use Rattle.jt_meaning.specs.Run.{Run}
+use Rattle.jt_meaning.specs.Next.{main_start}
+use Rattle.jt_step.specs.Tasks.{Task, told_of, new_task}
+use Rattle.jt_machine.specs.Machines.{first_shards, logs_of, AreSettled, IsJob, IsWaiting, IsShard, Runs}
 use Rattle.jt_machine.specs.Runs.{world_of}
 use Rattle.jt_machine.proofs.Entering.{body_at}
 
@@ -41,22 +42,24 @@ none_in zero k x i = i
 none_in (suc n) zero x i = i
 none_in (suc n) (suc k) x i = none_in n k x i
 
+pub none_begun : (events k : ℕ) (x : Entry) → In x (get_or (logs_of (first_shards 16 events)) k []) → ⊥
+none_begun events k x i = none_in 16 k x i
+
 module _ (run : Run) (seeds : Seeds) (main : Task) (made : main ≡ new_task run [] (main_start seeds) pool.Default) (worker : 1 ≤ run.sizes.default) (bodies : 0 < length run.program.tasks) where
   main_job : IsJob run (new_task run [] (main_start seeds) pool.Default)
   main_job = let b = body_at run.program.tasks 0 bodies in record {
     of_run = refl;
     comes = (op.Begin, ap op_of (law.begins run.program run.limits.turns [] (main_start seeds) b.0 b.1));
-    works = ap (λ b. (b && true)) (lt-ltb 0 run.sizes.default worker);
   }
 
   pub begun_runs : Runs run seeds (first_shards 16 run.limits.events) (main ∷ [])
   begun_runs = subst (λ t. Runs run seeds (first_shards 16 run.limits.events) (t ∷ [])) (sym made) (record {
     sixteen = refl;
     worker = worker;
-    each_shard = λ k s e. subst (IsShard run k) (first_at 16 run.limits.events k s e) (record { number = refl; events = refl; waiting = All-nil (Waits run k) });
+    each_shard = λ k s e. subst (IsShard run k) (first_at 16 run.limits.events k s e) (record { number = refl; events = refl; waiting = All-nil (IsWaiting run k) });
     each_job = All-cons (IsJob run) (new_task run [] (main_start seeds) pool.Default) [] main_job (All-nil (IsJob run));
     holds = holds_start Start (world_of run seeds);
-    goes_on = λ k x i. absurd (none_in 16 k x i);
+    goes_on = λ k x i. absurd (none_begun run.limits.events k x i);
   })
 
 pub begun_settled : (events : ℕ) → AreSettled (first_shards 16 events)

@@ -17,11 +17,12 @@ use Rattle.jt_program.specs.declared.program.Program.{Program}
 use Rattle.jt_program.specs.View.{program_plan, body_plan}
 use Rattle.jt_shard.specs.Serving.{serves}
 use Rattle.jt_shard.specs.Shards.{ShardState}
-use Rattle.jt_step.specs.declared.start.Start.{Start}
+use Rattle.jt_meaning.specs.declared.start.Start.{Start}
 use Rattle.jt_step.specs.declared.task.Advance.{Advance}
 use Rattle.jt_step.specs.declared.task.Advance.TheVariants as advance
-use Rattle.jt_step.specs.Next.{IsLater}
-use Rattle.jt_step.specs.Tasks.{Run, Task, told_of, coming, needed, new_task, told, Says, Advances, GoesOn, AsksWell, IsTaskOp}
+use Rattle.jt_meaning.specs.Next.{IsLater}
+use Rattle.jt_meaning.specs.Run.{Run}
+use Rattle.jt_step.specs.Tasks.{Task, told_of, coming, needed, new_task, told, Says, Advances, GoesOn, AsksWell, IsTaskOp}
 use Rattle.jt_machine.specs.declared.run.End.TheVariants as end
 use Rattle.jt_machine.specs.declared.turn.Follows.{Follows}
 use Rattle.jt_machine.specs.declared.turn.Follows.TheVariants as follows
@@ -123,7 +124,7 @@ module _ (run : Run) (seeds : Seeds) (shards : List (ShardState Task)) (ready : 
   -- more turns begin first
   pub more_turns : 0 < turns → a ≡ advance.More → Turns run seeds shards ready job (turn.GoesOn job1) shards ready
   more_turns p e = (
-    record { runs = advanced_runs; settled = settled; falls = record { total = omega arith; fewer = inr (refl, omega arith) } },
+    record { runs = advanced_runs; settled = settled; grows = λ l g. g; falls = record { total = omega arith; fewer = inr (refl, omega arith) } },
     inr (refl, by_answer says (ap told e)),
   )
     where
@@ -171,8 +172,8 @@ module _ (run : Run) (seeds : Seeds) (shards : List (ShardState Task)) (ready : 
 
   -- what an operation of the job that was advanced leaves is left by the job
   pub served_turns : (t : Turn) (shards' : List (ShardState Task)) (ready' : List Task) → Serves run seeds shards ready job1 t shards' ready' → Turns run seeds shards ready job t shards' ready'
-  served_turns (turn.GoesOn job2) shards' ready' s = (record { runs = s.0.runs; settled = s.0.settled; falls = record { total = s.0.falls.total; fewer = s.0.falls.fewer } }, inl s.1)
-  served_turns turn.Left shards' ready' s = record { runs = s.runs; settled = s.settled; falls = record { total = s.falls.total; fewer = s.falls.fewer } }
+  served_turns (turn.GoesOn job2) shards' ready' s = (record { runs = s.0.runs; settled = s.0.settled; grows = s.0.grows; falls = record { total = s.0.falls.total; fewer = s.0.falls.fewer } }, inl s.1)
+  served_turns turn.Left shards' ready' s = record { runs = s.runs; settled = s.settled; grows = s.grows; falls = record { total = s.falls.total; fewer = s.falls.fewer } }
   served_turns (turn.Ended e) shards' ready' s = s
 
 -- a program has as many bodies as its plan

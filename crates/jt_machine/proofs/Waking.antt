@@ -11,10 +11,11 @@ use Rattle.jt_base.specs.declared.operation.Op.{Op}
 use Rattle.jt_base.specs.declared.run.Seeds.{Seeds}
 use Rattle.jt_shard.specs.Shards.{ShardState, IsSettled}
 use Rattle.jt_shard.specs.Calls.{Wakes, WakesNext}
-use Rattle.jt_step.specs.Tasks.{Run, Task, told_of}
-use Rattle.jt_machine.specs.Machines.{waiting_in, AreSettled, SettledBut, IsJob, Waits, Runs, stamps_left, jobs_in}
+use Rattle.jt_meaning.specs.Run.{Run}
+use Rattle.jt_step.specs.Tasks.{Task, told_of}
+use Rattle.jt_machine.specs.Machines.{logs_of, waiting_in, AreSettled, SettledBut, IsJob, IsWaiting, Runs, stamps_left, jobs_in}
 use Rattle.jt_machine.specs.Turns.{WakesSome, WakesAll, GoesAfter}
-use Rattle.jt_machine.proofs.Shelf.{jobs_of, All-front, All-back, get_set_same, set_twice, set_itself, waiting_count, stamps_set, room_of}
+use Rattle.jt_machine.proofs.Shelf.{jobs_of, All-front, All-back, get_set_same, set_twice, set_itself, logs_same, waiting_count, stamps_set, room_of}
 use Rattle.jt_machine.proofs.Moving.{Moves, moved_runs, moved_count, settled_set}
 
 pub none_woken : (k : ℕ) (shards : List (ShardState Task)) (ready : List Task) (s : ShardState Task) → slice_get shards k ≡ Some s → WakesSome k shards ready shards ready
@@ -56,16 +57,16 @@ module _ (run : Run) (seeds : Seeds) (shards : List (ShardState Task)) (k : ℕ)
   all_moved r w =
       let s = w.before in
       let own = r.each_shard k s w.there in
-      let waits : All (Waits run k) (w.woken ++ w.after.waiting) = All-permutation (Waits run k) s.waiting (w.woken ++ w.after.waiting) w.waiting own.waiting in
+      let waits : All (IsWaiting run k) (w.woken ++ w.after.waiting) = All-permutation (IsWaiting run k) s.waiting (w.woken ++ w.after.waiting) w.waiting own.waiting in
       record {
         number = ap (λ (t : ShardState Task). t.number) w.kept;
         events = ap (λ (t : ShardState Task). t.events) w.kept;
         log = ap (λ (t : ShardState Task). t.log) w.kept;
-        waiting = All-back (Waits run k) w.woken w.after.waiting waits;
+        waiting = All-back (IsWaiting run k) w.woken w.after.waiting waits;
         each_job = subst (λ l. All (IsJob run) (more ++ l)) (sym w.joined)
             (subst (All (IsJob run)) (append_assoc more ready (jobs_of w.woken))
             (All-append (IsJob run) (more ++ ready) (jobs_of w.woken) r.each_job
-            (All-map (IsJob run) (λ (v : Task × Op). v.0) w.woken (All-weaker (Waits run k) (λ v. IsJob run v.0) (λ v x. x.job) w.woken (All-front (Waits run k) w.woken w.after.waiting waits)))));
+            (All-map (IsJob run) (λ (v : Task × Op). v.0) w.woken (All-weaker (IsWaiting run k) (λ v. IsJob run v.0) (λ v x. x.job) w.woken (All-front (IsWaiting run k) w.woken w.after.waiting waits)))));
         moved = subst (IsPermutation ((more ++ ready) ++ jobs_of s.waiting)) (parts w)
             (IsPermutation-append_right (more ++ ready) (jobs_of s.waiting) (jobs_of (w.woken ++ w.after.waiting)) (IsPermutation-map (λ (v : Task × Op). v.0) s.waiting (w.woken ++ w.after.waiting) w.waiting));
       }
@@ -88,6 +89,7 @@ module _ (run : Run) (seeds : Seeds) (shards : List (ShardState Task)) (k : ℕ)
       record {
         runs = subst (λ l. Runs run seeds l (more ++ ready')) (sym w.set) now;
         settled = subst AreSettled (sym w.set) (settled_set shards k w.after b a.settled);
+        logs = ap logs_of w.set ∙ logs_same shards k w.before w.after w.there m.log;
         stamps = ap stamps_left w.set ∙ same;
         count = ap (λ l. jobs_in l (more ++ ready')) w.set ∙ moved_count run seeds shards k w.before w.after (more ++ ready) (more ++ ready') w.there m;
       }

@@ -6,24 +6,24 @@ use Rattle.jt_base.specs.declared.operation.Op.{Op}
 use Rattle.jt_base.specs.declared.operation.Op.TheVariants as op
 use Rattle.jt_base.specs.declared.run.Seeds.{Seeds}
 use Rattle.jt_base.specs.declared.value.Value.{Value}
-use Rattle.jt_base.specs.Coming.{op_of}
 use Rattle.jt_base.specs.Jobs.{Held}
 use Rattle.jt_base.specs.Names as names
-use Rattle.jt_base.specs.Objects.{shard_of_object}
 use Rattle.jt_laws.specs.Entries.{shard, In}
 use Rattle.jt_laws.specs.Lines.{is_main_end}
-use Rattle.jt_laws.specs.Seats.{may_work}
 use Rattle.jt_laws.specs.Histories.{World}
 use Rattle.jt_histories.specs.Jobs.{Has, Holds, last_entry}
 use Rattle.jt_histories.specs.Rest.{AllStuck, AtLimit}
 use Rattle.jt_program.specs.View.{program_plan}
-use Rattle.jt_shard.specs.Shards.{ShardState, empty_shard, object_for, IsSettled}
-use Rattle.jt_step.specs.declared.start.Start.{Start}
-use Rattle.jt_step.specs.Tasks.{Run, Task, told_of, coming}
+use Rattle.jt_shard.specs.Runs as of
+use Rattle.jt_shard.specs.Shards.{ShardState, empty_shard, IsSettled}
+use Rattle.jt_meaning.specs.declared.start.Start.{Start}
+use Rattle.jt_meaning.specs.Run.{Run}
+use Rattle.jt_meaning.specs.Next.{next_in}
+use Rattle.jt_step.specs.Tasks.{Task, told_of}
 use Rattle.jt_machine.specs.declared.run.End.{End}
 use Rattle.jt_machine.specs.declared.run.End.TheVariants.{Ok, MainFailed, Deadlock, EventLimit}
 use Rattle.jt_machine.specs.declared.setting.Setting.{Setting}
-use Rattle.jt_machine.specs.Runs.{world_of}
+use Rattle.jt_machine.specs.Runs.{world_of, Grown}
 
 -- what the tasks have in common
 abbrev pub run_of : Setting → Run
@@ -53,23 +53,20 @@ SettledBut n shards = (k : ℕ) (s : ShardState Task) → slice_get shards k ≡
 
 -- ---- the jobs
 
--- a job of the run: an operation comes next for it, and worker 0 may make its entry
-pub record IsJob (run : Run) (t : Task) : Type 0 where
-  pub of_run : t.run ≡ run
-  pub comes : (op : Op) × (op_of (coming t) ≡ Some op)
-  pub works : may_work run.sizes t.seat 0 ≡ true
+abbrev pub run_with : Task → Run
+run_with t = t.run
+
+-- a job of the run, for which an operation comes next
+abbrev pub IsJob : Run → Task → Type 0
+IsJob = of.IsJob told_of run_with next_in
 
 -- it waits with the operation that comes next, at the shard of the operation's object
-pub record Waits (run : Run) (k : ℕ) (w : Task × Op) : Type 0 where
-  pub job : IsJob run w.0
-  pub comes : op_of (coming w.0) ≡ Some w.1
-  pub here : shard_of_object (object_for told_of w.0 w.1) ≡ k
+abbrev pub IsWaiting : Run → ℕ → Task × Op → Type 0
+IsWaiting = of.IsWaiting told_of run_with next_in
 
 -- a shard of the run
-pub record IsShard (run : Run) (k : ℕ) (s : ShardState Task) : Type 0 where
-  pub number : s.number ≡ k
-  pub events : s.events ≡ run.limits.events
-  pub waiting : All (Waits run k) s.waiting
+abbrev pub IsShard : Run → ℕ → ShardState Task → Type 0
+IsShard run = of.IsShard told_of run_with next_in run run.limits.events
 
 -- ---- main's end
 
@@ -124,3 +121,10 @@ jobs_in shards jobs = length (jobs ++ waiting_in shards)
 pub record Falls (shards : List (ShardState Task)) (jobs : List Task) (ready : ℕ) (shards' : List (ShardState Task)) (jobs' : List Task) (ready' : ℕ) : Type 0 where
   pub total : stamps_left shards' + jobs_in shards' jobs' ≤ stamps_left shards + jobs_in shards jobs
   pub fewer : (stamps_left shards' < stamps_left shards) ⊎ ((stamps_left shards' ≡ stamps_left shards) × (ready' ≤ ready))
+
+-- ---- what the logs keep
+
+-- whatever logs those of the first shards have grown from, those of the others have too
+abbrev pub Grows : Run → Seeds → List (ShardState Task) → List (ShardState Task) → Type 0
+Grows run seeds shards shards' =
+    (logs : List (List Entry)) → Grown Start (world_of run seeds) logs (logs_of shards) → Grown Start (world_of run seeds) logs (logs_of shards')

@@ -1,16 +1,22 @@
 -- A run of a program: its history, and why it ends.
-use Rattle.std.specs.Prelude.{◌≡◌, List, Some, None}
+use Rattle.std.specs.Prelude.{◌≡◌, ℕ, List, [], ◌++◌, Option, Some, None, get_or}
 use Rattle.jt_base.specs.declared.entry.Entry.{Entry}
 use Rattle.jt_base.specs.declared.operation.Op.TheVariants as op
+use Rattle.jt_base.specs.declared.run.Pool.{Pool}
+use Rattle.jt_base.specs.declared.run.Pool.TheVariants as pool
 use Rattle.jt_base.specs.declared.run.Seeds.{Seeds}
 use Rattle.jt_base.specs.declared.run.Sizes.{Sizes}
 use Rattle.jt_base.specs.declared.value.Value.{Value}
+use Rattle.jt_base.specs.Jobs.{Seat}
+use Rattle.jt_histories.specs.Merges.{IsMerge}
 use Rattle.jt_histories.specs.Rest.{AtRest, MeetsLimit}
-use Rattle.jt_laws.specs.Histories.{World, IsLegalHistory}
+use Rattle.jt_laws.specs.Entries.{shard, of_task, below, In}
+use Rattle.jt_laws.specs.Seats.{seat_of}
+use Rattle.jt_laws.specs.Histories.{World, Birth, birth_of, IsLegalHistory}
 use Rattle.jt_laws.specs.Lines.{main_end, cut_at_main_end}
-use Rattle.jt_step.specs.declared.start.Start.{Start}
-use Rattle.jt_step.specs.Tasks as task
-use Rattle.jt_step.specs.Tasks.{main_start, next_in}
+use Rattle.jt_meaning.specs.declared.start.Start.{Start}
+use Rattle.jt_meaning.specs.Run as task
+use Rattle.jt_meaning.specs.Next.{main_start, next_in}
 use Rattle.jt_machine.specs.declared.run.End.{End}
 use Rattle.jt_machine.specs.declared.run.End.TheVariants.{Ok, MainFailed, Deadlock, EventLimit}
 
@@ -40,3 +46,37 @@ pub record IsRun (run : task.Run) (seeds : Seeds) (h : List Entry) (end : End) :
   pub legal : IsLegalHistory Start (world_of run seeds) h
   pub whole : cut_at_main_end h ≡ h
   pub ended : IsEnd (world_of run seeds) h end
+
+-- ---- the workers
+
+-- where one worker of each pool works: a task that is bound to a worker has that one, and another task the
+-- first one of its pool
+abbrev pub worker_by : Sizes → Pool → Option ℕ → ℕ
+worker_by sizes p (Some k) = k
+worker_by sizes pool.Default None = 0
+worker_by sizes pool.Interactive None = sizes.default
+
+abbrev pub worker_of : Sizes → Seat → ℕ
+worker_of sizes seat = worker_by sizes seat.pool seat.bound
+
+module _ (S : Type 0) (world : World S) where
+  -- an entry of a history is made by the worker of its task's seat, which the task has by its birth and by
+  -- its entries before
+  pub record IsByItsWorker (h : List Entry) (e : Entry) : Type 0 where
+    pub birth : Birth S
+    pub born : birth_of S world h e.task ≡ Some birth
+    pub worker : e.worker ≡ worker_of world.sizes (seat_of world.sizes birth.maker (of_task e.task (below e.stamp h)))
+
+  -- each entry
+  abbrev pub AllByWorkers : List Entry → Type 0
+  AllByWorkers h = (e : Entry) → In e h → IsByItsWorker h e
+
+  -- each entry beyond those of these logs
+  abbrev pub FurtherByWorkers : List (List Entry) → List Entry → Type 0
+  FurtherByWorkers logs h = (e : Entry) → In e h → (In e (get_or logs (shard e) []) → ⊥) → IsByItsWorker h e
+
+  -- logs that have grown from these: each begins with what it was, and each further entry is made by its
+  -- task's worker
+  pub record Grown (logs grown : List (List Entry)) : Type 0 where
+    pub begins : (k : ℕ) → (more : List Entry) × (get_or grown k [] ≡ get_or logs k [] ++ more)
+    pub workers : (h : List Entry) → IsMerge grown h → FurtherByWorkers logs h

@@ -12,14 +12,15 @@ use Rattle.jt_laws.specs.Replies.{can_reply}
 use Rattle.jt_laws.specs.Tasks.{is_main}
 use Rattle.jt_shard.specs.Shards.{ShardState, IsSettled}
 use Rattle.jt_shard.specs.Serving.{serves}
-use Rattle.jt_step.specs.declared.start.Start.{Start}
-use Rattle.jt_step.specs.Tasks.{Run, Task, told_of, coming, coming_with, new_task, ComesAfter}
+use Rattle.jt_meaning.specs.declared.start.Start.{Start}
+use Rattle.jt_meaning.specs.Run.{Run}
+use Rattle.jt_step.specs.Tasks.{Task, told_of, coming, coming_with, new_task, ComesAfter}
 use Rattle.jt_machine.specs.declared.run.End.TheVariants as end
 use Rattle.jt_machine.specs.declared.turn.Follows.{Follows}
 use Rattle.jt_machine.specs.declared.turn.Follows.TheVariants as follows
 use Rattle.jt_machine.specs.declared.turn.Turn.{Turn}
 use Rattle.jt_machine.specs.declared.turn.Turn.TheVariants as turn
-use Rattle.jt_machine.specs.Machines.{Runs, AreSettled, Ended, Falls, stamps_left, jobs_in}
+use Rattle.jt_machine.specs.Machines.{logs_of, Runs, AreSettled, Ended, Falls, Grows, stamps_left, jobs_in}
 
 -- ---- what follows an operation
 
@@ -90,6 +91,7 @@ pub record WakesAll (k : ℕ) (shards : List (ShardState Task)) (ready : List Ta
 pub record Leaves (run : Run) (seeds : Seeds) (shards : List (ShardState Task)) (ready : List Task) (job : Task) (shards' : List (ShardState Task)) (jobs' : List Task) (ready' : ℕ) : Type 0 where
   pub runs : Runs run seeds shards' jobs'
   pub settled : AreSettled shards'
+  pub grows : Grows run seeds shards shards'
   pub falls : Falls shards (job ∷ ready) (length ready) shards' jobs' ready'
 
 -- stamps were given, or the job took turns
@@ -101,22 +103,23 @@ Further run shards job shards' job' =
 abbrev pub Turns : Run → Seeds → List (ShardState Task) → List Task → Task → Turn → List (ShardState Task) → List Task → Type 0
 Turns run seeds shards ready job (turn.GoesOn job') shards' ready' = Leaves run seeds shards ready job shards' (job' ∷ ready') (length ready') × Further run shards job shards' job'
 Turns run seeds shards ready job turn.Left shards' ready' = Leaves run seeds shards ready job shards' ready' (length ready')
-Turns run seeds shards ready job (turn.Ended e) shards' ready' = Ended run seeds shards' e
+Turns run seeds shards ready job (turn.Ended e) shards' ready' = Ended run seeds shards' e × Grows run seeds shards shards'
 
 -- after one operation of a job
 abbrev pub Serves : Run → Seeds → List (ShardState Task) → List Task → Task → Turn → List (ShardState Task) → List Task → Type 0
 Serves run seeds shards ready job (turn.GoesOn job') shards' ready' = Leaves run seeds shards ready job shards' (job' ∷ ready') (length ready') × (stamps_left shards' < stamps_left shards)
 Serves run seeds shards ready job turn.Left shards' ready' = Leaves run seeds shards ready job shards' ready' (length ready')
-Serves run seeds shards ready job (turn.Ended e) shards' ready' = Ended run seeds shards' e
+Serves run seeds shards ready job (turn.Ended e) shards' ready' = Ended run seeds shards' e × Grows run seeds shards shards'
 
 -- from the shards and the jobs right after a reply, once the waiting jobs were woken
 pub record GoesAfter (run : Run) (seeds : Seeds) (shards : List (ShardState Task)) (jobs : List Task) (shards' : List (ShardState Task)) (jobs' : List Task) : Type 0 where
   pub runs : Runs run seeds shards' jobs'
   pub settled : AreSettled shards'
+  pub logs : logs_of shards' ≡ logs_of shards
   pub stamps : stamps_left shards' ≡ stamps_left shards
   pub count : jobs_in shards' jobs' ≡ jobs_in shards jobs
 
 abbrev pub Followed : Run → Seeds → List (ShardState Task) → List Task → Task → Follows → Turn → List (ShardState Task) → List Task → Type 0
 Followed run seeds shards ready job f (turn.GoesOn job') shards' ready' = (job' ≡ job) × GoesAfter run seeds shards (left_by job f ++ ready) shards' (job' ∷ ready')
 Followed run seeds shards ready job f turn.Left shards' ready' = GoesAfter run seeds shards (left_by job f ++ ready) shards' ready'
-Followed run seeds shards ready job f (turn.Ended e) shards' ready' = Ended run seeds shards' e
+Followed run seeds shards ready job f (turn.Ended e) shards' ready' = Ended run seeds shards' e × (logs_of shards' ≡ logs_of shards)

@@ -8,16 +8,18 @@ ghost use Rattle.jt_histories.specs.Kept.{made_path};
 ghost use Rattle.jt_histories.specs.Merges.{AreLogs, IsMerge};
 ghost use Rattle.jt_laws.specs.Lines.{cut_at_main_end};
 ghost use Rattle.jt_step.specs.Tasks.{new_task};
-ghost use Rattle.jt_machine.specs.Machines.{run_of, first_shards, logs_of, Runs, AreSettled, SettledBut, Ended};
+ghost use Rattle.jt_machine.specs.Machines.{run_of, first_shards, logs_of, Runs, AreSettled, SettledBut, Ended, Grows};
+ghost use Rattle.jt_machine.specs.Runs.{worker_of};
 ghost use Rattle.jt_machine.specs.Turns.{Asks, Replied, Turns, Serves, Followed, WakesAll, Leaves};
 
 use crate::run::End;
 use crate::setting::Setting;
 use crate::turn::{Follows, Turn, what_follows};
-use jt_base::{Entry, Job, Object, Op, OutOfMemory, Path, Picks, Pool, SHARDS};
+use jt_base::{Entry, Job, Object, Op, OutOfMemory, Path, Picks, Pool, SHARDS, Sizes};
 use jt_histories::{cut_at_main_end, merge};
+use jt_meaning::Start;
 use jt_shard::{Applied, Shard};
-use jt_step::{Advance, Start, TaskRun};
+use jt_step::{Advance, TaskRun};
 use sqlite_items::Items;
 use std::alloc::Global;
 
@@ -52,6 +54,7 @@ impl<'p> Machine<'p> {
         requires worker { 1 ≤ setting.now.sizes.default }
         ensures runs { IfOk result (λ m. Runs (run_of setting.now) setting.now.seeds m.shards.items m.ready) }
         ensures settled { IfOk result (λ m. AreSettled m.shards.items) }
+        ensures empty { IfOk result (λ m. m.shards.items ≡ first_shards 16 setting.now.limits.events) }
     {
         let shards = empty_shards(setting.alloc, setting.limits.events)?;
         let start = Start::main(setting.alloc, &setting.seeds)?;
@@ -77,7 +80,8 @@ impl<'p> Machine<'p> {
     pub(crate) fn run(&mut self, setting: &Setting<'p>, picks: Picks) -> Result<End, OutOfMemory>
         requires runs { Runs (run_of setting.now) setting.now.seeds self.old.shards.items self.old.ready }
         requires settled { AreSettled self.old.shards.items }
-        ensures { IfOk result (λ end. Ended (run_of setting.now) setting.now.seeds self.new.shards.items end) }
+        ensures ended { IfOk result (λ end. Ended (run_of setting.now) setting.now.seeds self.new.shards.items end) }
+        ensures grows { IfOk result (λ end. Grows (run_of setting.now) setting.now.seeds self.old.shards.items self.new.shards.items) }
     {
         let mut picks = picks;
         'slices: loop {
@@ -110,7 +114,7 @@ impl<'p> Machine<'p> {
     fn slice(&mut self, setting: &Setting<'p>, job: TaskRun<'p>) -> Result<Option<End>, OutOfMemory>
         requires runs { Runs (run_of setting.now) setting.now.seeds self.old.shards.items (job ∷ self.old.ready) }
         requires settled { AreSettled self.old.shards.items }
-        ensures { IfOk result (λ end. MatchOption end (Leaves (run_of setting.now) setting.now.seeds self.old.shards.items self.old.ready job.entry self.new.shards.items self.new.ready (length self.new.ready)) (λ e. Ended (run_of setting.now) setting.now.seeds self.new.shards.items e)) }
+        ensures { IfOk result (λ end. MatchOption end (Leaves (run_of setting.now) setting.now.seeds self.old.shards.items self.old.ready job.entry self.new.shards.items self.new.ready (length self.new.ready)) (λ e. Ended (run_of setting.now) setting.now.seeds self.new.shards.items e × Grows (run_of setting.now) setting.now.seeds self.old.shards.items self.new.shards.items)) }
     {
         let mut job = job;
         'turns: loop {
@@ -157,9 +161,10 @@ impl<'p> Machine<'p> {
         ensures { IfOk result (λ turn. Serves (run_of setting.now) setting.now.seeds self.old.shards.items self.old.ready job.entry turn self.new.shards.items self.new.ready) }
     {
         let mut job = job;
+        let worker = worker_for(&job, setting.sizes);
         let k = Object::of(job.path(), &op).shard() as usize;
         self.shards[k].reserve(&mut job, &op)?;
-        match self.shards[k].apply(&mut job, op, 0) {
+        match self.shards[k].apply(&mut job, op, worker) {
             Applied::Done(_) => self.follow(setting, k, job, follows),
             Applied::NotYet(op) => {
                 self.shards[k].park(job, op);
@@ -225,6 +230,19 @@ impl<'p> Machine<'p> {
         }
         let history = merge(alloc, logs)?;
         Ok(cut_at_main_end(history))
+    }
+}
+
+/// The worker that makes a job's entries: the one to which it is bound, else the first of its pool.
+fn worker_for<'p>(job: &TaskRun<'p>, sizes: Sizes) -> u32
+    ensures { result ≡ worker_of sizes job.now.seat }
+{
+    match job.bound() {
+        Some(worker) => worker,
+        None => match job.pool() {
+            Pool::Default => 0,
+            Pool::Interactive => sizes.default,
+        },
     }
 }
 

@@ -2,7 +2,8 @@
 
 ghost use Rattle.std.specs.Prelude.{◌≡◌, ◌<◌, ◌≤◌, length, IfOk};
 ghost use Rattle.jt_program.specs.View.{program_plan};
-ghost use Rattle.jt_machine.specs.Runs.{IsRun, one_worker};
+ghost use Rattle.jt_meaning.specs.declared.start.Start.{Start};
+ghost use Rattle.jt_machine.specs.Runs.{world_of, IsRun, AllByWorkers, one_worker};
 
 use crate::machine::Machine;
 use crate::setting::Setting;
@@ -44,7 +45,8 @@ pub fn run_plain(
     limits: &Limits,
 ) -> Result<Run, OutOfMemory>
     requires main { 0 < length program.now.tasks }
-    ensures { IfOk result (λ run. IsRun (record { program = program_plan program.now; sizes = one_worker; limits = limits.now }) seeds.now run.history.items run.end) }
+    ensures run { IfOk result (λ run. IsRun (record { program = program_plan program.now; sizes = one_worker; limits = limits.now }) seeds.now run.history.items run.end) }
+    ensures workers { IfOk result (λ run. AllByWorkers Start (world_of (record { program = program_plan program.now; sizes = one_worker; limits = limits.now }) seeds.now) run.history.items) }
 {
     let sizes = Sizes {
         default: 1,
@@ -53,7 +55,8 @@ pub fn run_plain(
     run_on_one_worker(alloc, program, seeds, sizes, picks, limits)
 }
 
-/// The same where there are more workers: worker 0, one of the default workers, makes every entry.
+/// The same where there are more workers: an entry of a task that is bound to a worker is made by this
+/// one, and an entry of another task by the first worker of its pool.
 ///
 /// # Errors
 ///
@@ -68,7 +71,8 @@ pub fn run_on_one_worker(
 ) -> Result<Run, OutOfMemory>
     requires main { 0 < length program.now.tasks }
     requires worker { 1 ≤ sizes.default }
-    ensures { IfOk result (λ run. IsRun (record { program = program_plan program.now; sizes = sizes; limits = limits.now }) seeds.now run.history.items run.end) }
+    ensures run { IfOk result (λ run. IsRun (record { program = program_plan program.now; sizes = sizes; limits = limits.now }) seeds.now run.history.items run.end) }
+    ensures workers { IfOk result (λ run. AllByWorkers Start (world_of (record { program = program_plan program.now; sizes = sizes; limits = limits.now }) seeds.now) run.history.items) }
 {
     let setting = Setting {
         alloc,

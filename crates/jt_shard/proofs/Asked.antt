@@ -1,6 +1,7 @@
 -- A task's completion where the task need not be there yet answers by the law of tasks.
 use Rattle.std.proofs.Common.{◌≡◌, ℕ, List, [], ◌∷◌, ◌++◌, Option, Some, None, Bool, true, false, refl, sym, ap, ◌∙◌}
-use Rattle.std.specs.Prelude.{◌&&◌, ◌||◌, not, if◌then◌else◌}
+use Rattle.std.specs.Prelude.{◌&&◌, ◌||◌, not, if◌then◌else◌, MatchBool}
+use Rattle.std.specs.Option.{is_some}
 use Rattle.std.proofs.lemmas.Bool.{false≢true}
 use Rattle.jt_base.specs.declared.operation.How.{How}
 use Rattle.jt_base.specs.declared.operation.Op.{Op}
@@ -13,17 +14,13 @@ use Rattle.jt_base.specs.declared.entry.Ask.TheVariants.{Done, NotYet}
 use Rattle.jt_base.specs.declared.object.Object.TheVariants.{Task}
 use Rattle.jt_base.specs.Objects.{object_of}
 use Rattle.jt_laws.specs.Tasks.{ok_if, is_main}
-use Rattle.jt_laws.specs.Objects.{reply_after, answer_of, Asked, MadeBy}
+use Rattle.jt_laws.specs.Objects.{reply_after, answer_of, Asked, Allowed, MadeBy}
 use Rattle.jt_laws.proofs.Paths.{same_of}
 use Rattle.jt_conditions.specs.declared.completion.Completion.{Completion}
 use Rattle.jt_conditions.specs.Completions.{makes_task, stage_of, completion_left_by}
 use Rattle.jt_shard.specs.Asking.{IsPast, Answers, Allows, Refuses}
 
--- what is answered is the reply, if there is one
-pub done_reply : (o : Option Reply) (r : Reply) → Done r ≡ answer_of o → (s : Reply) × (o ≡ Some s)
-done_reply (Some s) r e = (s, refl)
-done_reply None r e = absurd (cc)
-
+-- where the answer is not yet, there is no reply
 pub no_reply : (o : Option Reply) → NotYet ≡ answer_of o → o ≡ None
 no_reply (Some s) e = absurd (cc)
 no_reply None e = refl
@@ -83,25 +80,40 @@ not_there path task op n o =
     }
 
 -- a Spawn makes the task
+spawn_done : (path task : List ℕ) (op : Op) (q : List ℕ) (how : How) (past : List Entry) → op ≡ Spawn q how → object_of task op ≡ Task path → IsPast path None past → reply_after past task op ≡ Some reply.Ok
+spawn_done path task op q how past is o k =
+    let p : q ≡ path = cc in
+    let u = unmade path past k in
+    ap (λ l. reply_after l task op) u.0 ∙ ap (λ x. reply_after [] task x) is ∙ ap (λ b. ok_if (not b)) (ap is_main p ∙ u.1)
+
 pub spawned : (path task : List ℕ) (op : Op) (q : List ℕ) (how : How) (c : Completion) → op ≡ Spawn q how → ((path : List ℕ) (how : How) → MadeBy Completion (completion_left_by path) (Spawn path how) c) → object_of task op ≡ Task path → Answers path task op None (Done reply.Ok) (Some c)
 spawned path task op q how c is m o =
     let p : q ≡ path = cc in
-    let done : (past : List Entry) → IsPast path None past → reply_after past task op ≡ Some reply.Ok = λ past k.
-    let u = unmade path past k in
-    ap (λ l. reply_after l task op) u.0 ∙ ap (λ x. reply_after [] task x) is ∙ ap (λ b. ok_if (not b)) (ap is_main p ∙ u.1) in
     record {
-      answers = λ past k. sym (ap answer_of (done past k));
+      answers = λ past k. sym (ap answer_of (spawn_done path task op q how past is o k));
       moves = λ past e k t s r.
           let u = unmade path past k in
           sym (m path how e (s ∙ is ∙ ap (λ x. Spawn x how) p)) ∙ ap (λ l. completion_left_by path (l ++ e ∷ [])) (sym u.0);
       stays = λ z. absurd (cc);
     }
 
--- what a copy answers, the task allows or refuses
-pub allowed : (now before after : Option Completion) (op : Op) (r : Reply) → before ≡ now → ((path task : List ℕ) → object_of task op ≡ Task path → Answers path task op before (Done r) after) → Allows now op
-allowed now before after op r is a = λ path task past o p.
-    done_reply (reply_after past task op) r ((a path task o).answers past (record { of = p.of; lawful = p.lawful; left = is ∙ p.left }))
+-- what is allowed has a reply
+has_reply : (o : Option Reply) → true ≡ is_some o → (r : Reply) × (o ≡ Some r)
+has_reply (Some r) e = (r, refl)
+has_reply None e = absurd (cc)
 
-pub refused : (now before after : Option Completion) (op : Op) → before ≡ now → ((path task : List ℕ) → object_of task op ≡ Task path → Answers path task op before NotYet after) → Refuses now op
-refused now before after op is a = λ path task past o p.
-    no_reply (reply_after past task op) ((a path task o).answers past (record { of = p.of; lawful = p.lawful; left = is ∙ p.left }))
+has_none : (o : Option Reply) → false ≡ is_some o → o ≡ None
+has_none (Some r) e = absurd (cc)
+has_none None e = refl
+
+-- a task that is there allows what its completion allows
+pub there_allows : (op : Op) (c : Completion) (b : Bool) → ((path task : List ℕ) → object_of task op ≡ Task path → Allowed Completion (completion_left_by path) task op c b) → MatchBool b (Allows (Some c) op) (Refuses (Some c) op)
+there_allows op c true a = λ path task past o p. has_reply (reply_after past task op) (a path task o past p.lawful (sym p.left))
+there_allows op c false a = λ path task past o p. has_none (reply_after past task op) (a path task o past p.lawful (sym p.left))
+
+-- one that isn't there allows its Spawn alone
+pub spawn_allowed : (op : Op) (q : List ℕ) (how : How) → op ≡ Spawn q how → Allows None op
+spawn_allowed op q how is = λ path task past o p. (reply.Ok, spawn_done path task op q how past is o p)
+
+pub rest_refused : (op : Op) → ((q : List ℕ) (how : How) → op ≡ Spawn q how → ⊥) → Refuses None op
+rest_refused op n = λ path task past o p. no_reply (reply_after past task op) ((not_there path task op n o).answers past p)

@@ -5,3 +5,4 @@ pub mod Asking
 pub mod Changing
 pub mod Calls
 pub mod Placed
+pub mod Runs

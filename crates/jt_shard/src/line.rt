@@ -12,19 +12,6 @@ use jt_base::{Ask, Op, Reply};
 use jt_conditions::Completion;
 use std::collections::VecDeque;
 
-/// An equal completion. It takes no memory.
-fn copied(completion: &Option<Completion>) -> Option<Completion>
-    ensures { result ≡ completion.now }
-{
-    match completion {
-        None => None,
-        Some(Completion::Spawned) => Some(Completion::Spawned),
-        Some(Completion::Running) => Some(Completion::Running),
-        Some(Completion::Ended(value)) => Some(Completion::Ended(value.copy())),
-        Some(Completion::Failed) => Some(Completion::Failed),
-    }
-}
-
 /// Answers an operation on a task. A Spawn makes a task that isn't there, and nothing else is allowed
 /// then.
 pub(crate) fn answer(completion: &mut Option<Completion>, op: &Op) -> Ask
@@ -42,14 +29,13 @@ pub(crate) fn answer(completion: &mut Option<Completion>, op: &Op) -> Ask
     }
 }
 
-/// Whether an operation on a task is allowed.
+/// Whether `answer` would answer an operation on a task with a reply now.
 pub(crate) fn allows(completion: &Option<Completion>, op: &Op) -> bool
     ensures { MatchBool result (Allows completion.now op.now) (Refuses completion.now op.now) }
 {
-    let mut completion = copied(completion);
-    match answer(&mut completion, op) {
-        Ask::Done(_) => true,
-        Ask::NotYet => false,
+    match completion {
+        Some(completion) => completion.allows(op),
+        None => matches!(op, Op::Spawn(_, _)),
     }
 }
 

@@ -1,6 +1,6 @@
 //! The objects of one shard, with their entries and the jobs that wait for them.
 
-ghost use Rattle.std.specs.Prelude.{◌≡◌, true, map, OnOk, OnErr};
+ghost use Rattle.std.specs.Prelude.{◌≡◌, true, length, map, OnOk, OnErr};
 ghost use Rattle.jt_base.specs.Objects.{shard_of_object};
 ghost use Rattle.jt_shard.specs.Serving.{serves};
 ghost use Rattle.jt_shard.specs.Shards.{empty_shard, object_for, MustWait, IsSettled, HasRoom};
@@ -74,6 +74,13 @@ impl<J: Job> Shard<J> {
         ensures { result.now ≡ self.now.log }
     {
         self.log.as_slice()
+    }
+
+    /// How many jobs wait.
+    pub fn waiting(&self) -> usize
+        ensures { result ≡ length self.now.waiting }
+    {
+        self.count
     }
 
     /// Makes room in the shard and in the job for one entry of this operation, or for the job to

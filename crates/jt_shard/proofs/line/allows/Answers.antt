@@ -1,16 +1,20 @@
--- A copy is asked in its place.
-use Rattle.std.proofs.Common.{subst}
-use Rattle.jt_base.specs.declared.entry.Ask.{Ask}
-use Rattle.jt_shard.specs.Asking.{Answers}
-use Rattle.jt_shard.proofs.Asked.{allowed, refused}
+-- A task that is there allows what its completion allows, and one that isn't its Spawn alone.
+use Rattle.std.proofs.Common.{Option, sym, subst}
+use Rattle.std.specs.Prelude.{MatchBool}
+use Rattle.jt_conditions.specs.declared.completion.Completion.{Completion}
+use Rattle.jt_shard.specs.Asking.{Allows, Refuses}
+use Rattle.jt_shard.proofs.Asked.{there_allows, spawn_allowed, rest_refused}
 use Rattle.jt_shard.proofs.line.allows.Goals as goal
 
-pub returns-in-Done : goal.returns-in-Done
-returns-in-Done c =
-    allowed c.args.completion.now c.copied-completion.result c.answer.new.completion c.args.op.now c.in-Done.field-0 c.copied-completion.ensures
-    (λ path task o. subst (λ (a : Ask). Answers path task c.args.op.now c.copied-completion.result a c.answer.new.completion) c.in-Done.is (c.answer.ensures path task o))
+pub returns-in-Some : goal.returns-in-Some
+returns-in-Some c =
+    subst (λ (o : Option Completion). MatchBool c.allows.result (Allows o c.args.op.now) (Refuses o c.args.op.now)) (sym c.in-Some.is)
+    (there_allows c.args.op.now c.in-Some.completion c.allows.result c.allows.ensures.law)
 
-pub returns-in-NotYet : goal.returns-in-NotYet
-returns-in-NotYet c =
-    refused c.args.completion.now c.copied-completion.result c.answer.new.completion c.args.op.now c.copied-completion.ensures
-    (λ path task o. subst (λ (a : Ask). Answers path task c.args.op.now c.copied-completion.result a c.answer.new.completion) c.in-NotYet.is (c.answer.ensures path task o))
+pub returns-in-Spawn : goal.returns-in-Spawn
+returns-in-Spawn c =
+    subst (λ (o : Option Completion). Allows o c.args.op.now) (sym c.in-None.is) (spawn_allowed c.args.op.now c.in-Spawn.field-0 c.in-Spawn.field-1 c.in-Spawn.is)
+
+pub returns-in_default : goal.returns-in_default
+returns-in_default c =
+    subst (λ (o : Option Completion). Refuses o c.args.op.now) (sym c.in-None.is) (rest_refused c.args.op.now c.in_default.not-Spawn)

@@ -7,6 +7,8 @@ use Rattle.jt_histories.specs.Merges.{AreLogs, IsMerge, items_of}
 use Rattle.jt_shard.specs.Shards.{ShardState}
 use Rattle.jt_step.specs.Tasks.{Task}
 use Rattle.jt_machine.specs.Machines.{logs_of}
+use denote.Param.Send.{sendable}
+use Rattle.jt_step.proofs.Sent.{run_send}
 use Rattle.jt_machine.proofs.machine.Machine.into_history.Goals as goal
 
 pub loop-shard-preserved : goal.loop-shard-preserved
@@ -31,3 +33,6 @@ returns c =
       subst (λ ls. IsMerge ls c.in_ok-history.history.items) (c.loop-shard.invariant ∙ ap logs_of (sym (map-id c.loop-shard.yielded) ∙ t.0)) c.in_ok-history.ensures,
       c.cut_at_main_end.ensures,
     )
+
+pub into_parts-log-requires-send-J : goal.into_parts-log-requires-send-J
+into_parts-log-requires-send-J c κs = search (run_send, sendable)
