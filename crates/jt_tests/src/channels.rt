@@ -51,11 +51,29 @@ fn ask(channel: &mut Chan, call: Call) -> Result<Ask, OutOfMemory>
     })
 }
 
-fn changed(cell: &mut Cell64, change: Change) -> Ask {
-    let name = Name {
+// Whether the channel says that it allows a call.
+fn allows(channel: &Chan, call: Call) -> bool {
+    channel.allows(&match call {
+        Call::Put(v) => Op::Put(name(), v),
+        Call::Offer(v) => Op::Offer(name(), v),
+        Call::Landed(k) => Op::Landed(name(), k),
+        Call::Take => Op::Take(name()),
+        Call::Next => Op::Next(name()),
+        Call::Close => Op::Close(name()),
+        Call::IsOpen => Op::IsOpen(name()),
+        Call::IsReady => Op::IsReady(name()),
+    })
+}
+
+fn name() -> Name {
+    Name {
         path: Path::main(),
         number: 0,
-    };
+    }
+}
+
+fn changed(cell: &mut Cell64, change: Change) -> Ask {
+    let name = name();
     cell.ask(&match change {
         Change::Get => Op::AGet(name),
         Change::Set(v) => Op::ASet(name, v),
@@ -104,7 +122,9 @@ fn channel_row(
 {
     let mut channel = sendable(Chan::new(alloc, capacity));
     for (call, want) in calls {
+        let allowed = allows(&channel, *call);
         let got = ask(&mut channel, *call)?;
+        assert_eq!(rt; allowed, got != Ask::NotYet, "whether {call:?} is allowed");
         assert_eq!(rt; got, *want, "at {call:?}");
     }
     Ok(())

@@ -117,9 +117,28 @@ fn ask(rt: &impl Abort, object: &mut Object, task: &Path, op: &Op) -> Result<Ask
     })
 }
 
+// Whether the object says that it allows a task's operation.
+fn allows(object: &Object, task: &Path, op: &Op) -> bool {
+    match object {
+        Object::Task(completion) => completion.allows(op),
+        Object::Event(event) => event.allows(op),
+        Object::Lock(lock) => lock.allows(task, op),
+        Object::Semaphore(semaphore) => semaphore.allows(op),
+        Object::Condition(condition) => condition.allows(task, op),
+    }
+}
+
 fn play(rt: &impl Abort, mut object: Object, steps: &[(u32, Call, Want)]) -> Result<(), Fail> {
     for (task, call, want) in steps {
-        let answer = ask(rt, &mut object, &path(*task)?, &op_of(*call))?;
+        let path = path(*task)?;
+        let op = op_of(*call);
+        let allowed = allows(&object, &path, &op);
+        let answer = ask(rt, &mut object, &path, &op)?;
+        assert_eq!(rt;
+            allowed,
+            answer != Ask::NotYet,
+            "whether {call:?} is allowed by {task}"
+        );
         assert_eq!(rt; answer, answer_of(*want), "{call:?} by {task}");
     }
     Ok(())

@@ -3,8 +3,9 @@
 use jt_base::{
     Fault, How, Job, Limits, Op, OutOfMemory, Path, Pool, Reply, Seeds, Sizes, Text, Value,
 };
+use jt_meaning::Start;
 use jt_program::{Arm, Body, BuiltIn, Callee, Code, Fork, Literal, Piece, Program};
-use jt_step::{Advance, Start, TaskRun};
+use jt_step::{Advance, TaskRun};
 use jt_syntax::{ArithmeticOperator, ComparisonOperator};
 use sqlite_items::{Boxed, Items};
 use std::alloc::Global;

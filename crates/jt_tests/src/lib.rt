@@ -18,6 +18,8 @@ mod forms;
 #[cfg(test)]
 mod numbers;
 #[cfg(test)]
+mod objects;
+#[cfg(test)]
 mod picks;
 #[cfg(test)]
 mod printing;

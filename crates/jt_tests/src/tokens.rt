@@ -1,7 +1,9 @@
 //! Texts and their tokens.
 
 ghost use Rattle.std.specs.Prelude.{◌≤◌, length};
+ghost use Rattle.jt_base.specs.Limits.{most_script};
 
+use jt_base::MOST_SCRIPT;
 use jt_lexer::lex;
 use jt_syntax::{Token, TokenKind};
 use std::alloc::{AllocError, Global};
@@ -112,7 +114,7 @@ fn write_token(out: &mut String, token: &Token) -> Result<(), AllocError> {
 
 /// What `lex` gives of a text, as the rows write it.
 fn lexed(alloc: Global, text: &str) -> Result<String, AllocError>
-    requires { length text.now ≤ 1048576 }
+    requires { length text.now ≤ most_script }
 {
     let mut out = String::new(alloc);
     match lex(alloc, text) {
@@ -133,7 +135,7 @@ fn expect_row(rt: &impl Abort, alloc: Global, text: &str, wanted: &str) -> Resul
     let text = text.replace(alloc, '/', "\n")?;
     let text = text.as_str().replace(alloc, '`', "\r")?;
     let text = text.as_str().replace(alloc, '\'', "\t")?;
-    assert!(rt; text.len() <= 1_048_576);
+    assert!(rt; text.len() <= MOST_SCRIPT);
     let found = lexed(alloc, text.as_str())?;
     assert_eq!(rt; found.as_str(), wanted, "{text:?}");
     Ok(())

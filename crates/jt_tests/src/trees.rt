@@ -2,6 +2,7 @@
 //! printed text was read again; and texts with as many openers as may be open. In the tables `¶` stands
 //! for a newline. The texts also stand in `tests/` at the top, with what the program answers to them.
 
+use jt_base::MOST_SCRIPT;
 use jt_lexer::lex;
 use jt_parser::parse;
 use jt_printer::{print_script, reread};
@@ -124,7 +125,7 @@ fn nested_text(alloc: Global, row: &str) -> Result<String, Fail> {
 
 // The script that a text is.
 pub fn script_of(rt: &impl Abort, alloc: Global, text: &str) -> Result<Script, Fail> {
-    assert!(rt; text.len() <= 1_048_576);
+    assert!(rt; text.len() <= MOST_SCRIPT);
     let tokens = lex(alloc, text)?;
     Ok(parse(alloc, tokens.as_slice())?)
 }

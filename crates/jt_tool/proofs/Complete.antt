@@ -3,6 +3,7 @@ use Rattle.std.proofs.Common.{◌≡◌, ℕ, ◌+◌, ◌≤◌, ◌↔◌, Lis
 use Rattle.std.proofs.lemmas.List.{append-nil, length-append}
 use Rattle.jt_base.specs.declared.entry.Entry.{Entry}
 use Rattle.jt_base.specs.declared.run.Sizes.{Sizes}
+use Rattle.jt_base.specs.Limits.{most_script, most_open}
 use Rattle.jt_base.specs.Outside.{ReadsToEnd, Gives}
 use Rattle.jt_grammar.specs.Joined.{IsScriptOf, IsUnexpected, IsTooDeep}
 use Rattle.jt_grammar.proofs.Main.{lines_only}
@@ -22,7 +23,7 @@ use Rattle.jt_tool.specs.declared.report.Refusal.{Refusal}
 use Rattle.jt_tool.specs.declared.report.Refusal.TheVariants.{BadCharacter, OpenString, NumberTooLarge, Unexpected, TooDeep, NotBuilt, UnknownName, CapturedAssigned, AmbiguousGlobal, TwiceDefined, WrongCount, NoConstant, BadJump}
 use Rattle.jt_tool.specs.declared.report.Status.{Status}
 use Rattle.jt_tool.specs.declared.report.Status.TheVariants.{Ok as Fine, MainFailed, Usage, Refused, ReadFault, WriteFault, Deadlock, EventLimit, OutOfMemory, TooLarge, NotText}
-use Rattle.jt_tool.specs.Tool.{AnswersSource, WasRead, IsAccepted, IsOfRun, IsScriptText, IsRefused, IsMisnamedAt, most_script, most_open}
+use Rattle.jt_tool.specs.Tool.{AnswersSource, ReadWhole, IsAccepted, IsOfRun, IsScriptText, IsRefused, IsMisnamedAt}
 
 -- what a source gave is no more than what was left
 not_too_many : (before after : Option (List ℕ)) → IsAccepted before → Gives before after (most_script + 1) → ⊥
@@ -110,7 +111,7 @@ none_is_some o a n q = apart (sym n ∙ q)
 
 pub completes : (sizes : Option Sizes) (read_rose wrote_rose : Type 0) (status : Status) (history : List Entry) (before after out_before out_after : Option (List ℕ))
     → (status ≡ Usage ↔ (sizes ≡ None)) → (status ≡ ReadFault → read_rose) → (status ≡ TooLarge → Gives before after (most_script + 1))
-    → ((chosen : Sizes) → sizes ≡ Some chosen → WasRead status → AnswersSource chosen before after status history out_before out_after)
+    → ((chosen : Sizes) → sizes ≡ Some chosen → ReadWhole status → AnswersSource chosen before after status history out_before out_after)
     → (status ≡ WriteFault → wrote_rose)
     → (chosen : Sizes) → sizes ≡ Some chosen → (read_rose → ⊥) → (wrote_rose → ⊥) → IsAccepted before → IsOfRun status
 completes sizes rr wr Fine history b a ob oa usage read large whole write chosen is no_read no_write accepted = tt

@@ -7,50 +7,50 @@ use Rattle.jt_tool.specs.declared.report.Status.{Status}
 use Rattle.jt_tool.specs.declared.report.Status.TheVariants.{Ok, MainFailed, Usage, Refused, ReadFault, WriteFault, Deadlock, EventLimit, OutOfMemory, TooLarge, NotText}
 use Rattle.jt_tool.specs.Faults.{fault_text}
 
-abbrev pub number_of : Status → ℕ
-number_of Ok = 0
-number_of (MainFailed fault) = 1
-number_of Usage = 2
-number_of (Refused kind at) = 3
-number_of ReadFault = 4
-number_of WriteFault = 5
-number_of Deadlock = 6
-number_of EventLimit = 7
-number_of OutOfMemory = 8
-number_of TooLarge = 9
-number_of NotText = 10
+abbrev pub exit_status : Status → ℕ
+exit_status Ok = 0
+exit_status (MainFailed fault) = 1
+exit_status Usage = 2
+exit_status (Refused kind at) = 3
+exit_status ReadFault = 4
+exit_status WriteFault = 5
+exit_status Deadlock = 6
+exit_status EventLimit = 7
+exit_status OutOfMemory = 8
+exit_status TooLarge = 9
+exit_status NotText = 10
 
-abbrev pub kind_of : Refusal → List ℕ
-kind_of BadCharacter = codes "bad-character"
-kind_of OpenString = codes "open-string"
-kind_of NumberTooLarge = codes "number-too-large"
-kind_of Unexpected = codes "unexpected"
-kind_of TooDeep = codes "too-deep"
-kind_of NotBuilt = codes "not-built"
-kind_of UnknownName = codes "unknown-name"
-kind_of CapturedAssigned = codes "captured-assigned"
-kind_of AmbiguousGlobal = codes "ambiguous-global"
-kind_of TwiceDefined = codes "twice-defined"
-kind_of WrongCount = codes "wrong-count"
-kind_of NoConstant = codes "no-constant"
-kind_of BadJump = codes "bad-jump"
+abbrev pub refusal_word : Refusal → List ℕ
+refusal_word BadCharacter = codes "bad-character"
+refusal_word OpenString = codes "open-string"
+refusal_word NumberTooLarge = codes "number-too-large"
+refusal_word Unexpected = codes "unexpected"
+refusal_word TooDeep = codes "too-deep"
+refusal_word NotBuilt = codes "not-built"
+refusal_word UnknownName = codes "unknown-name"
+refusal_word CapturedAssigned = codes "captured-assigned"
+refusal_word AmbiguousGlobal = codes "ambiguous-global"
+refusal_word TwiceDefined = codes "twice-defined"
+refusal_word WrongCount = codes "wrong-count"
+refusal_word NoConstant = codes "no-constant"
+refusal_word BadJump = codes "bad-jump"
 
 -- one line that begins with the program's name
 abbrev pub line : List ℕ → List ℕ
 line text = codes "julia-tasks: " ++ text ++ codes "\n"
 
-abbrev pub note_of : Status → List ℕ
-note_of Ok = []
-note_of (MainFailed fault) = line (codes "main failed: " ++ fault_text fault)
-note_of Usage = line (codes "usage: run, trace, check, draws or gen with options")
-note_of (Refused kind at) = line (codes "refused: " ++ kind_of kind ++ codes " at " ++ decimal at)
-note_of ReadFault = line (codes "reading failed")
-note_of WriteFault = line (codes "writing failed")
-note_of Deadlock = line (codes "deadlock")
-note_of EventLimit = line (codes "event limit")
-note_of OutOfMemory = line (codes "out of memory")
-note_of TooLarge = line (codes "input too large")
-note_of NotText = line (codes "not UTF-8")
+abbrev pub status_note : Status → List ℕ
+status_note Ok = []
+status_note (MainFailed fault) = line (codes "main failed: " ++ fault_text fault)
+status_note Usage = line (codes "usage: run, trace, check, draws or gen with options")
+status_note (Refused kind at) = line (codes "refused: " ++ refusal_word kind ++ codes " at " ++ decimal at)
+status_note ReadFault = line (codes "reading failed")
+status_note WriteFault = line (codes "writing failed")
+status_note Deadlock = line (codes "deadlock")
+status_note EventLimit = line (codes "event limit")
+status_note OutOfMemory = line (codes "out of memory")
+status_note TooLarge = line (codes "input too large")
+status_note NotText = line (codes "not UTF-8")
 
 -- a status whose note is short: no fault is told
 abbrev pub IsBrief : Status → Type 0

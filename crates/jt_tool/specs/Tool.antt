@@ -2,9 +2,9 @@
 use Rattle.std.specs.Prelude.{◌≡◌, ℕ, ◌≤◌, ◌⊎◌, List, [], ◌∷◌, Option, Some, None, length, IsUtf8}
 use Rattle.std.specs.Io.KnownBytes.{Appends}
 use Rattle.jt_base.specs.declared.entry.Entry.{Entry}
-use Rattle.jt_base.specs.declared.run.Limits.{Limits}
 use Rattle.jt_base.specs.declared.run.Seeds.{Seeds}
 use Rattle.jt_base.specs.declared.run.Sizes.{Sizes}
+use Rattle.jt_base.specs.Limits.{most_script, most_open, default_limits}
 use Rattle.jt_base.specs.Outside.{Rose, ReadsToEnd, WritesPrefix}
 use Rattle.jt_laws.specs.Lines.{lines_of}
 use Rattle.jt_grammar.specs.Joined.{IsScriptOf, IsUnexpected, IsTooDeep}
@@ -12,7 +12,7 @@ use Rattle.jt_grammar.specs.Nesting.{TopsWithin}
 use Rattle.jt_forms.specs.Built.{unbuilt}
 use Rattle.jt_lexer.specs.declared.error.LexError.{LexError}
 use Rattle.jt_lexer.specs.declared.error.LexError.TheVariants as lexical
-use Rattle.jt_lexer.specs.Tokens.{IsTokensOf, Refuses}
+use Rattle.jt_lexer.specs.Tokens.{IsTokensOf, RefusesText}
 use Rattle.jt_parser.specs.declared.error.ParseError.{ParseError}
 use Rattle.jt_parser.specs.declared.error.ParseError.TheVariants as grammatical
 use Rattle.jt_rules.specs.declared.rules.Rule.{Rule}
@@ -27,30 +27,18 @@ use Rattle.jt_syntax.specs.declared.token.Token.{Token}
 use Rattle.jt_machine.specs.declared.run.End.{End}
 use Rattle.jt_machine.specs.declared.run.End.TheVariants as end
 use Rattle.jt_machine.specs.Runs.{IsRun as IsRunOfProgram}
-use Rattle.jt_step.specs.Tasks.{Run as RunOfTasks}
+use Rattle.jt_meaning.specs.Run.{Run as RunOfTasks}
 use Rattle.jt_tool.specs.declared.reading.ReadError.{ReadError}
 use Rattle.jt_tool.specs.declared.reading.ReadError.TheVariants as read_error
 use Rattle.jt_tool.specs.declared.report.Refusal.{Refusal}
 use Rattle.jt_tool.specs.declared.report.Refusal.TheVariants.{BadCharacter, OpenString, NumberTooLarge, Unexpected, TooDeep, NotBuilt, UnknownName, CapturedAssigned, AmbiguousGlobal, TwiceDefined, WrongCount, NoConstant, BadJump}
 use Rattle.jt_tool.specs.declared.report.Status.{Status}
 use Rattle.jt_tool.specs.declared.report.Status.TheVariants.{Ok, MainFailed, Usage, Refused, ReadFault, WriteFault, Deadlock, EventLimit, OutOfMemory, TooLarge, NotText}
-use Rattle.jt_tool.specs.Status.{note_of}
-
--- the most bytes of a script
-abbrev pub most_script : ℕ
-most_script = 1048576
+use Rattle.jt_tool.specs.Status.{status_note}
 
 -- the seed words of a run
 abbrev pub default_seeds : Seeds
 default_seeds = record { words = 1 ∷ 2 ∷ 3 ∷ 4 ∷ 5 ∷ [] }
-
--- the most turns of a task, and the greatest stamp
-abbrev pub default_limits : Limits
-default_limits = record { turns = 100000000; events = 262144 }
-
--- the most openers that may be open at once
-abbrev pub most_open : ℕ
-most_open = 200
 
 -- the bytes are a text, these are its tokens, and they are this script, with no opener too many
 pub record IsScriptText (bytes : List ℕ) (tokens : List Token) (tops : List TopTree) : Type 0 where
@@ -90,9 +78,9 @@ IsMisnamedAt bytes r at = (tokens : List Token) × (tops : List TopTree) × IsSc
 
 -- why a text is refused, and where
 abbrev pub IsRefused : List ℕ → Refusal → ℕ → Type 0
-IsRefused bytes BadCharacter at = Refuses bytes (lexical.BadCharacter at)
-IsRefused bytes OpenString at = Refuses bytes (lexical.OpenString at)
-IsRefused bytes NumberTooLarge at = Refuses bytes (lexical.NumberTooLarge at)
+IsRefused bytes BadCharacter at = RefusesText bytes (lexical.BadCharacter at)
+IsRefused bytes OpenString at = RefusesText bytes (lexical.OpenString at)
+IsRefused bytes NumberTooLarge at = RefusesText bytes (lexical.NumberTooLarge at)
 IsRefused bytes Unexpected at = IsUnexpectedAt bytes at
 IsRefused bytes TooDeep at = IsTooDeepAt bytes at
 IsRefused bytes NotBuilt at = IsUnbuiltAt bytes at
@@ -106,25 +94,25 @@ IsRefused bytes BadJump at = IsMisnamedAt bytes rule.BadJump at
 
 -- The answer to bytes that were read to their end, with the history, and what was written before and after: either
 -- the history's lines were written, all of them or, where a write failed, a prefix; or the bytes are no text, or a text that is refused.
-abbrev pub Answers : Sizes → List ℕ → Status → List Entry → Option (List ℕ) → Option (List ℕ) → Type 0
-Answers sizes bytes Ok history before after = IsRunOf sizes bytes history end.Ok × Appends before after (lines_of history)
-Answers sizes bytes (MainFailed fault) history before after = IsRunOf sizes bytes history (end.MainFailed fault) × Appends before after (lines_of history)
-Answers sizes bytes Deadlock history before after = IsRunOf sizes bytes history end.Deadlock × Appends before after (lines_of history)
-Answers sizes bytes EventLimit history before after = IsRunOf sizes bytes history end.EventLimit × Appends before after (lines_of history)
-Answers sizes bytes WriteFault history before after = (e : End) × IsRunOf sizes bytes history e × WritesPrefix before after (lines_of history)
-Answers sizes bytes (Refused kind at) history before after = IsUtf8 bytes × IsRefused bytes kind at
-Answers sizes bytes NotText history before after = ¬ IsUtf8 bytes
-Answers sizes bytes Usage history before after = Unit {0}
-Answers sizes bytes ReadFault history before after = Unit {0}
-Answers sizes bytes OutOfMemory history before after = Unit {0}
-Answers sizes bytes TooLarge history before after = Unit {0}
+abbrev pub AnswersBytes : Sizes → List ℕ → Status → List Entry → Option (List ℕ) → Option (List ℕ) → Type 0
+AnswersBytes sizes bytes Ok history before after = IsRunOf sizes bytes history end.Ok × Appends before after (lines_of history)
+AnswersBytes sizes bytes (MainFailed fault) history before after = IsRunOf sizes bytes history (end.MainFailed fault) × Appends before after (lines_of history)
+AnswersBytes sizes bytes Deadlock history before after = IsRunOf sizes bytes history end.Deadlock × Appends before after (lines_of history)
+AnswersBytes sizes bytes EventLimit history before after = IsRunOf sizes bytes history end.EventLimit × Appends before after (lines_of history)
+AnswersBytes sizes bytes WriteFault history before after = (e : End) × IsRunOf sizes bytes history e × WritesPrefix before after (lines_of history)
+AnswersBytes sizes bytes (Refused kind at) history before after = IsUtf8 bytes × IsRefused bytes kind at
+AnswersBytes sizes bytes NotText history before after = ¬ IsUtf8 bytes
+AnswersBytes sizes bytes Usage history before after = Unit {0}
+AnswersBytes sizes bytes ReadFault history before after = Unit {0}
+AnswersBytes sizes bytes OutOfMemory history before after = Unit {0}
+AnswersBytes sizes bytes TooLarge history before after = Unit {0}
 
 -- the answer to what was read of a source, which is no longer than a script may be
 pub record AnswersSource (sizes : Sizes) (left_before left_after : Option (List ℕ)) (status : Status) (history : List Entry) (before after : Option (List ℕ)) : Type 0 where
   pub bytes : List ℕ
   pub read : ReadsToEnd left_before left_after bytes
   pub short : length bytes ≤ most_script
-  pub answers : Answers sizes bytes status history before after
+  pub answers : AnswersBytes sizes bytes status history before after
 
 -- bytes that are told, no more than a script may have, and a script all of whose forms run and that breaks no rule of names
 abbrev pub IsAccepted : Option (List ℕ) → Type 0
@@ -146,18 +134,18 @@ IsOfRun TooLarge = ⊥
 IsOfRun NotText = ⊥
 
 -- a status by which the whole source was read
-abbrev pub WasRead : Status → Type 0
-WasRead Ok = Unit {0}
-WasRead (MainFailed fault) = Unit {0}
-WasRead Deadlock = Unit {0}
-WasRead EventLimit = Unit {0}
-WasRead WriteFault = Unit {0}
-WasRead (Refused kind at) = Unit {0}
-WasRead NotText = Unit {0}
-WasRead Usage = ⊥
-WasRead ReadFault = ⊥
-WasRead OutOfMemory = ⊥
-WasRead TooLarge = ⊥
+abbrev pub ReadWhole : Status → Type 0
+ReadWhole Ok = Unit {0}
+ReadWhole (MainFailed fault) = Unit {0}
+ReadWhole Deadlock = Unit {0}
+ReadWhole EventLimit = Unit {0}
+ReadWhole WriteFault = Unit {0}
+ReadWhole (Refused kind at) = Unit {0}
+ReadWhole NotText = Unit {0}
+ReadWhole Usage = ⊥
+ReadWhole ReadFault = ⊥
+ReadWhole OutOfMemory = ⊥
+ReadWhole TooLarge = ⊥
 
 -- a status that comes once the whole source was read
 abbrev pub ComesAfterReading : Status → Type 0
@@ -256,7 +244,7 @@ StopsScript tops status = ⊥
 
 -- the note of a failed main task; of another status nothing is said
 abbrev pub TellsFailure : Status → List ℕ → Type 0
-TellsFailure (MainFailed fault) note = note ≡ note_of (MainFailed fault)
+TellsFailure (MainFailed fault) note = note ≡ status_note (MainFailed fault)
 TellsFailure Ok note = Unit {0}
 TellsFailure Usage note = Unit {0}
 TellsFailure (Refused kind at) note = Unit {0}

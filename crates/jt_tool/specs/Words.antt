@@ -1,6 +1,7 @@
 -- The words of the command line.
 use Rattle.std.specs.Prelude.{ℕ, ◌+◌, ◌*◌, ◌-◌, List, [], ◌∷◌, ◌++◌, Bool, ◌&&◌, Option, Some, None, length, nat_eq, nat_le, if◌then◌else◌, codes}
 use Rattle.jt_base.specs.declared.run.Sizes.{Sizes}
+use Rattle.jt_machine.specs.Runs.{one_worker}
 use Rattle.jt_syntax.specs.Bytes.{same_bytes}
 
 -- a decimal digit
@@ -8,24 +9,24 @@ abbrev pub is_digit : ℕ → Bool
 is_digit c = nat_le 48 c && nat_le c 57
 
 -- the number that these digits go on with
-abbrev pub number_from : ℕ → List ℕ → Option ℕ
-number_from n [] = Some n
-number_from n (c ∷ cs) = if is_digit c then number_from (n * 10 + (c - 48)) cs else None
+abbrev pub decimal_from : ℕ → List ℕ → Option ℕ
+decimal_from n [] = Some n
+decimal_from n (c ∷ cs) = if is_digit c then decimal_from (n * 10 + (c - 48)) cs else None
 
 -- the same from a number that is there, or not
 abbrev pub number_with : Option ℕ → List ℕ → Option ℕ
 number_with None cs = None
-number_with (Some n) cs = number_from n cs
+number_with (Some n) cs = decimal_from n cs
 
 -- a number has 1 to 20 digits; leading zeros are allowed
 abbrev pub number_named : List ℕ → Option ℕ
 number_named [] = None
-number_named (c ∷ cs) = if nat_le (length cs) 19 then number_from 0 (c ∷ cs) else None
+number_named (c ∷ cs) = if nat_le (length cs) 19 then decimal_from 0 (c ∷ cs) else None
 
 -- in a range
-abbrev pub within : ℕ → ℕ → Option ℕ → Option ℕ
-within least most None = None
-within least most (Some n) = if nat_le least n && nat_le n most then Some n else None
+abbrev pub in_range : ℕ → ℕ → Option ℕ → Option ℕ
+in_range least most None = None
+in_range least most (Some n) = if nat_le least n && nat_le n most then Some n else None
 
 -- the default and the interactive workers
 abbrev pub sizes_with : Option ℕ → Option ℕ → Option Sizes
@@ -34,10 +35,10 @@ sizes_with (Some n) None = None
 sizes_with None m = None
 
 abbrev pub default_named : List ℕ → Option ℕ
-default_named text = within 1 64 (number_named text)
+default_named text = in_range 1 64 (number_named text)
 
 abbrev pub interactive_named : List ℕ → Option ℕ
-interactive_named text = within 0 16 (number_named text)
+interactive_named text = in_range 0 16 (number_named text)
 
 -- `N` or `N,M`: 1 to 64 default workers, and 0 to 16 interactive ones, none where the number is missing.
 -- before: what stands before this text
@@ -47,10 +48,6 @@ threads_from before (c ∷ cs) = if nat_eq c 44 then sizes_with (default_named b
 
 abbrev pub threads_named : List ℕ → Option Sizes
 threads_named text = threads_from [] text
-
--- one default worker and no interactive one
-abbrev pub one_worker : Sizes
-one_worker = record { default = 1; interactive = 0 }
 
 -- the numbers of workers that the command `run` or `run --threads N,M` names; none for other words
 abbrev pub sizes_named : List (List ℕ) → Option Sizes

@@ -13,7 +13,7 @@ const MOST_DIGITS: usize = 20;
 fn with_digit(number: u32, digit: u8, most: u32) -> Option<u32>
     requires number { number ≤ most }
     requires most { most ≤ 64 }
-    ensures named { (more : List ℕ) → spec.within 0 most (spec.number_from number (digit ∷ more)) ≡ spec.within 0 most (spec.number_with result more) }
+    ensures named { (more : List ℕ) → spec.in_range 0 most (spec.decimal_from number (digit ∷ more)) ≡ spec.in_range 0 most (spec.number_with result more) }
     ensures most { IfSome result (λ n. n ≤ most) }
 {
     if !digit.is_ascii_digit() {
@@ -26,7 +26,7 @@ fn with_digit(number: u32, digit: u8, most: u32) -> Option<u32>
 /// The number, at most this one, that the digits of a text are.
 fn number_up_to(text: &[u8], most: u32) -> Option<u32>
     requires { most ≤ 64 }
-    ensures { result ≡ spec.within 0 most (spec.number_from 0 text.now) }
+    ensures { result ≡ spec.in_range 0 most (spec.decimal_from 0 text.now) }
 {
     let mut number = 0;
     for digit in text {
@@ -38,7 +38,7 @@ fn number_up_to(text: &[u8], most: u32) -> Option<u32>
 /// The number between these two that a text is, if it is one: 1 to 20 digits, leading zeros allowed.
 fn number_within(text: &[u8], least: u32, most: u32) -> Option<u32>
     requires { most ≤ 64 }
-    ensures { result ≡ spec.within least most (spec.number_named text.now) }
+    ensures { result ≡ spec.in_range least most (spec.number_named text.now) }
 {
     if text.is_empty() || text.len() > MOST_DIGITS {
         return None;
@@ -81,7 +81,7 @@ fn threads_named(text: &[u8]) -> Option<Sizes>
 
 /// The numbers of workers that the command names: one default worker by `run`, and those of
 /// `run --threads N` or `run --threads N,M`. Nothing for other words.
-pub fn sizes_named(words: &[String]) -> Option<Sizes>
+pub(crate) fn sizes_named(words: &[String]) -> Option<Sizes>
     ensures named { result ≡ spec.sizes_named (map string_bytes words.now) }
     ensures worker { IfSome result (λ sizes. 1 ≤ sizes.default) }
 {
@@ -110,7 +110,7 @@ pub fn sizes_named(words: &[String]) -> Option<Sizes>
 }
 
 /// The same where it is one default worker alone, and nothing for other numbers.
-pub fn plain_sizes_named(words: &[String]) -> Option<Sizes>
+pub(crate) fn plain_sizes_named(words: &[String]) -> Option<Sizes>
     ensures named { result ≡ spec.plain_sizes_named (map string_bytes words.now) }
     ensures worker { IfSome result (λ sizes. 1 ≤ sizes.default) }
 {

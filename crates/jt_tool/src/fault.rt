@@ -61,7 +61,7 @@ fn push_task_failed(text: &mut String, path: &Path) -> Result<(), AllocError>
 }
 
 /// Adds the text of a fault.
-pub fn push_fault(text: &mut String, fault: &Fault) -> Result<(), AllocError>
+pub(crate) fn push_fault(text: &mut String, fault: &Fault) -> Result<(), AllocError>
     ensures { OnOk result (string_bytes text.new ≡ string_bytes text.old ++ spec.fault_text fault.now) }
 {
     match fault {

@@ -3,7 +3,7 @@
 ghost use Rattle.std.specs.Prelude.{◌≡◌, ◌++◌, ◌≤◌, length, codes, IfOk};
 ghost use Rattle.std.specs.Fmt.{decimal};
 ghost use Rattle.jt_tool.specs.declared.report.Status.TheVariants.{MainFailed};
-ghost use Rattle.jt_tool.specs.Status.{note_of, kind_of, IsBrief};
+ghost use Rattle.jt_tool.specs.Status.{status_note, refusal_word, IsBrief};
 
 use crate::fault::push_fault;
 use crate::report::{Refusal, Status};
@@ -13,12 +13,12 @@ use jt_base::{Fault, OutOfMemory, Text};
 use std::alloc::Global;
 
 /// Room for the longest note of a status that tells no fault.
-pub const LONGEST_NOTE: usize = 96;
+pub(crate) const LONGEST_NOTE: usize = 96;
 
 /// The note of a status that tells no fault, empty for `Ok`. It takes no memory.
-pub fn brief_note(status: &Status) -> ArrayString<LONGEST_NOTE>
+pub(crate) fn brief_note(status: &Status) -> ArrayString<LONGEST_NOTE>
     requires { IsBrief status.now }
-    ensures { result.bytes ≡ note_of status.now }
+    ensures { result.bytes ≡ status_note status.now }
 {
     let mut note = ArrayString::new();
     if matches!(status, Status::Ok) {
@@ -49,8 +49,8 @@ pub fn brief_note(status: &Status) -> ArrayString<LONGEST_NOTE>
 }
 
 /// The note of a main task that failed with this fault.
-pub fn failure_note(alloc: Global, fault: &Fault) -> Result<Text, OutOfMemory>
-    ensures { IfOk result (λ note. note ≡ note_of (MainFailed fault.now)) }
+pub(crate) fn failure_note(alloc: Global, fault: &Fault) -> Result<Text, OutOfMemory>
+    ensures { IfOk result (λ note. note ≡ status_note (MainFailed fault.now)) }
 {
     let mut note = String::from_str(alloc, "julia-tasks: main failed: ")?;
     push_fault(&mut note, fault)?;

@@ -13,7 +13,7 @@ const BUFFER: usize = 4096;
 
 /// Why a source wasn't read to its end.
 #[derive(Clone, Copy, PartialEq, Eq, Debug, Drop, Error)]
-pub enum ReadError {
+pub(crate) enum ReadError {
     /// A read failed.
     #[error("reading failed")]
     Failed,
@@ -27,7 +27,7 @@ pub enum ReadError {
 /// Reads `source` to its end, or one byte past `limit`. `TooLarge` exactly where it gives more
 /// than `limit` bytes before a read fails or memory is wanting; `Failed` only where a read failed,
 /// which ends the reading. After an error the bytes that were read are lost.
-pub fn read_all<S: Source>(
+pub(crate) fn read_all<S: Source>(
     alloc: Global,
     source: &mut S,
     limit: usize,

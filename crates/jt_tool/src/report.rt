@@ -1,7 +1,7 @@
 //! What a command answers.
 
 ghost use Rattle.std.specs.Prelude.{◌≡◌, ◌≤◌, length};
-ghost use Rattle.jt_tool.specs.Status.{number_of, kind_of};
+ghost use Rattle.jt_tool.specs.Status.{exit_status, refusal_word};
 
 use jt_base::{Entry, Fault};
 
@@ -17,7 +17,7 @@ pub enum Refusal {
     NumberTooLarge,
     /// The tokens before this one begin a script, and with it they begin none.
     Unexpected,
-    /// This opener is expected here, and is the 201st that is open.
+    /// This opener is expected here, and would be open inside `MOST_OPEN` others.
     TooDeep,
     /// The form of the script that begins here isn't built yet.
     NotBuilt,
@@ -41,8 +41,8 @@ pub enum Refusal {
 
 impl Refusal {
     /// The word of this kind of refusal.
-    pub fn name(&self) -> &'static str
-        ensures name { result.now ≡ kind_of self.now }
+    pub(crate) fn name(&self) -> &'static str
+        ensures name { result.now ≡ refusal_word self.now }
         ensures short { length result.now ≤ 20 }
     {
         match self {
@@ -93,7 +93,7 @@ pub enum Status {
 impl Status {
     /// The exit status of the program.
     pub fn number(&self) -> u8
-        ensures { result ≡ number_of self.now }
+        ensures { result ≡ exit_status self.now }
     {
         match self {
             Status::Ok => 0,

@@ -1,6 +1,7 @@
 //! From the bytes of a script to its run, with all that is to be written of it.
 
 ghost use Rattle.std.specs.Prelude.{◌≡◌, ◌+◌, ◌≤◌, None, length, IsUtf8, IfOk, IfErr};
+ghost use Rattle.jt_base.specs.Limits.{most_script, most_open};
 ghost use Rattle.jt_laws.specs.Lines.{lines_of};
 ghost use Rattle.jt_machine.specs.declared.run.End.TheVariants.{MainFailed as FailedMain};
 ghost use Rattle.jt_machine.specs.Runs.{IsRun as IsRunOfProgram};
@@ -11,11 +12,11 @@ ghost use Rattle.jt_forms.specs.Built.{unbuilt};
 ghost use Rattle.jt_lexer.specs.Tokens.{IsTokensOf};
 ghost use Rattle.jt_rules.specs.Scripts.{BreaksNone};
 ghost use Rattle.jt_syntax.specs.View.{script_view};
-ghost use Rattle.jt_tool.specs.Tool.{IsRunOf, run_with, Stops, StopsTokens, StopsScript, TellsFailure, most_script, most_open, default_seeds, status_of_end};
+ghost use Rattle.jt_tool.specs.Tool.{IsRunOf, run_with, Stops, StopsTokens, StopsScript, TellsFailure, default_seeds, status_of_end};
 
 use crate::note::failure_note;
 use crate::report::{Refusal, Status};
-use jt_base::{Entry, Limits, OutOfMemory, Picks, Seeds, Sizes, Text};
+use jt_base::{DEFAULT_LIMITS, Entry, OutOfMemory, Picks, Seeds, Sizes, Text};
 use jt_forms::unbuilt;
 use jt_lexer::lex;
 use jt_machine::{End, Run, lines, run_on_one_worker};
@@ -29,29 +30,23 @@ const DEFAULT_SEEDS: Seeds = Seeds {
     words: [1, 2, 3, 4, 5],
 };
 
-/// The limits of a run.
-const DEFAULT_LIMITS: Limits = Limits {
-    turns: 100_000_000,
-    events: 262_144,
-};
-
 /// With how many workers a script is run, and by which picks its ready tasks are chosen.
 #[derive(Clone, Copy)]
-pub struct Way {
-    pub sizes: Sizes,
-    pub picks: u64,
+pub(crate) struct Way {
+    pub(crate) sizes: Sizes,
+    pub(crate) picks: u64,
 }
 
 /// A run, its lines, and the note of its main task where that failed.
-pub struct Ran {
-    pub history: Vec<Entry>,
-    pub end: End,
-    pub lines: Text,
-    pub failure: Text,
+pub(crate) struct Ran {
+    pub(crate) history: Vec<Entry>,
+    pub(crate) end: End,
+    pub(crate) lines: Text,
+    pub(crate) failure: Text,
 }
 
 /// The tokens of these bytes.
-pub fn tokens_of(alloc: Global, bytes: &[u8]) -> Result<Vec<Token>, Status>
+fn tokens_of(alloc: Global, bytes: &[u8]) -> Result<Vec<Token>, Status>
     requires { length bytes.now ≤ most_script }
     ensures text { IfOk result (λ tokens. IsUtf8 bytes.now) }
     ensures tokens { IfOk result (λ tokens. IsTokensOf bytes.now tokens.items) }
@@ -147,7 +142,7 @@ fn told(alloc: Global, run: Run) -> Result<Ran, OutOfMemory>
 }
 
 /// Runs the script that these bytes are.
-pub fn run_bytes(alloc: Global, bytes: &[u8], way: Way) -> Result<Ran, Status>
+pub(crate) fn run_bytes(alloc: Global, bytes: &[u8], way: Way) -> Result<Ran, Status>
     requires short { length bytes.now ≤ most_script }
     requires worker { 1 ≤ way.sizes.default }
     ensures run { IfOk result (λ ran. IsRunOf way.sizes bytes.now ran.history.items ran.end) }

@@ -3,11 +3,12 @@
 ghost use Rattle.std.specs.Prelude.{◌≡◌, ◌+◌, ◌≤◌, ◌↔◌, [], IfSome, None, Some, length, map, string_bytes};
 ghost use Rattle.std.specs.Io.KnownBytes.{Appends};
 ghost use Rattle.jt_base.specs.declared.run.Sizes.{Sizes as SizesOf};
+ghost use Rattle.jt_base.specs.Limits.{most_script};
 ghost use Rattle.jt_base.specs.Outside.{Rose, Gives};
 ghost use Rattle.jt_tool.specs.declared.report.Status.TheVariants.{Usage, ReadFault, WriteFault, TooLarge};
-ghost use Rattle.jt_tool.specs.Status.{note_of, IsBrief};
+ghost use Rattle.jt_tool.specs.Status.{status_note, IsBrief};
 ghost use Rattle.jt_tool.specs.Words.{plain_sizes_named, sizes_named};
-ghost use Rattle.jt_tool.specs.Tool.{Answers, AnswersSource, IsOfRun, WasRead, WroteNothing, ComesAfterReading, IsAccepted, TellsFailure, EndsAs, most_script, status_of_end};
+ghost use Rattle.jt_tool.specs.Tool.{AnswersBytes, AnswersSource, IsOfRun, ReadWhole, WroteNothing, ComesAfterReading, IsAccepted, TellsFailure, EndsAs, status_of_end};
 
 use crate::command::{plain_sizes_named, sizes_named};
 use crate::note::{LONGEST_NOTE, brief_note};
@@ -16,13 +17,10 @@ use crate::report::{Report, Status};
 use crate::run::{Ran, Way, run_bytes};
 use crate::writing::write_all;
 use arrayvec::ArrayString;
-use jt_base::{Gate, Sink, Sizes, Source, Text};
+use jt_base::{Gate, MOST_SCRIPT, Sink, Sizes, Source, Text};
 use std::alloc::Global;
 use std::sync::Wait;
 use std::thread::Threads;
-
-/// The most bytes of a script.
-const MOST_SCRIPT: usize = 1_048_576;
 
 /// By which picks a run's ready tasks are chosen.
 const DEFAULT_PICKS: u64 = 0;
@@ -74,7 +72,7 @@ fn written<O: Sink>(ran: Ran, out: &mut O) -> Outcome
 fn answer_bytes<O: Sink>(alloc: Global, bytes: &[u8], way: Way, out: &mut O) -> Outcome
     requires short { length bytes.now ≤ most_script }
     requires worker { 1 ≤ way.sizes.default }
-    ensures answer { Answers way.sizes bytes.now result.report.status result.report.history.items (O.written out.old) (O.written out.new) }
+    ensures answer { AnswersBytes way.sizes bytes.now result.report.status result.report.history.items (O.written out.old) (O.written out.new) }
     ensures write_fault { result.report.status ≡ WriteFault → Rose (O.faults out.old) (O.faults out.new) }
     ensures never_falls { O.faults out.old ≤ O.faults out.new }
     ensures nothing { WroteNothing result.report.status → out.new ≡ out.old }
@@ -99,7 +97,7 @@ fn answer<S: Source, O: Sink>(
     ensures usage { result.report.status ≡ Usage ↔ (sizes ≡ None) }
     ensures read_fault { result.report.status ≡ ReadFault → Rose (S.faults source.old) (S.faults source.new) }
     ensures too_large { result.report.status ≡ TooLarge → Gives (S.left source.old) (S.left source.new) (most_script + 1) }
-    ensures whole { (chosen : SizesOf) → sizes ≡ Some chosen → WasRead result.report.status → AnswersSource chosen (S.left source.old) (S.left source.new) result.report.status result.report.history.items (O.written out.old) (O.written out.new) }
+    ensures whole { (chosen : SizesOf) → sizes ≡ Some chosen → ReadWhole result.report.status → AnswersSource chosen (S.left source.old) (S.left source.new) result.report.status result.report.history.items (O.written out.old) (O.written out.new) }
     ensures write_fault { result.report.status ≡ WriteFault → Rose (O.faults out.old) (O.faults out.new) }
     ensures source_never_falls { S.faults source.old ≤ S.faults source.new }
     ensures out_never_falls { O.faults out.old ≤ O.faults out.new }
@@ -124,7 +122,7 @@ fn answer<S: Source, O: Sink>(
 /// takes no memory.
 pub fn tell<N: Sink>(notes: &mut N, status: &Status)
     requires { IsBrief status.now }
-    ensures { ¬ Rose (N.faults notes.old) (N.faults notes.new) → Appends (N.written notes.old) (N.written notes.new) (note_of status.now) }
+    ensures { ¬ Rose (N.faults notes.old) (N.faults notes.new) → Appends (N.written notes.old) (N.written notes.new) (status_note status.now) }
 {
     let note = brief_note(status);
     let _written = write_all(notes, note.as_str().as_bytes());
@@ -139,8 +137,8 @@ fn tell_after_writing<N: Sink>(
     write_fault: &ArrayString<LONGEST_NOTE>,
 )
     requires failure { TellsFailure status.now failure.now }
-    requires write_fault { write_fault.now.bytes ≡ note_of WriteFault }
-    ensures { ¬ Rose (N.faults notes.old) (N.faults notes.new) → Appends (N.written notes.old) (N.written notes.new) (note_of status.now) }
+    requires write_fault { write_fault.now.bytes ≡ status_note WriteFault }
+    ensures { ¬ Rose (N.faults notes.old) (N.faults notes.new) → Appends (N.written notes.old) (N.written notes.new) (status_note status.now) }
 {
     match status {
         Status::MainFailed(_) => {
@@ -165,11 +163,11 @@ fn answer_and_note<S: Source, O: Sink, N: Sink>(
     ensures usage { result.status ≡ Usage ↔ (sizes ≡ None) }
     ensures read_fault { result.status ≡ ReadFault → Rose (S.faults source.old) (S.faults source.new) }
     ensures too_large { result.status ≡ TooLarge → Gives (S.left source.old) (S.left source.new) (most_script + 1) }
-    ensures whole { (chosen : SizesOf) → sizes ≡ Some chosen → WasRead result.status → AnswersSource chosen (S.left source.old) (S.left source.new) result.status result.history.items (O.written out.old) (O.written out.new) }
+    ensures whole { (chosen : SizesOf) → sizes ≡ Some chosen → ReadWhole result.status → AnswersSource chosen (S.left source.old) (S.left source.new) result.status result.history.items (O.written out.old) (O.written out.new) }
     ensures write_fault { result.status ≡ WriteFault → Rose (O.faults out.old) (O.faults out.new) }
     ensures nothing { WroteNothing result.status → out.new ≡ out.old }
     ensures no_run { WroteNothing result.status → result.history.items ≡ [] }
-    ensures noted { ¬ Rose (N.faults notes.old) (N.faults notes.new) → Appends (N.written notes.old) (N.written notes.new) (note_of result.status) }
+    ensures noted { ¬ Rose (N.faults notes.old) (N.faults notes.new) → Appends (N.written notes.old) (N.written notes.new) (status_note result.status) }
     ensures complete { (chosen : SizesOf) → sizes ≡ Some chosen → ¬ Rose (S.faults source.old) (S.faults source.new) → ¬ Rose (O.faults out.old) (O.faults out.new)
         → IsAccepted (S.left source.old) → IsOfRun result.status }
 {
@@ -180,15 +178,15 @@ fn answer_and_note<S: Source, O: Sink, N: Sink>(
 }
 
 /// Does the command `run` with one default worker: reads the script to the end of `source` or one byte
-/// past its most of 1,048,576, runs it, writes the lines of its run to `out` and one line to `notes` for
+/// past its most, `MOST_SCRIPT`, runs it, writes the lines of its run to `out` and one line to `notes` for
 /// each status but `Ok`. All that is written is made before the first write, and writing takes no
 /// memory.
 ///
 /// The history is that of the run: it ends with the end of the script's main task with `Ok`, with
 /// its failure with `MainFailed`, with `Deadlock` where the main task hasn't ended and no task can go on,
-/// and with `EventLimit` where a further entry would have a stamp greater than 262,144. `WriteFault`
-/// comes in place of these, and only where a write to `out` failed; a prefix of the lines stands there
-/// then.
+/// and with `EventLimit` where a further entry would have a stamp greater than that of `DEFAULT_LIMITS`.
+/// `WriteFault` comes in place of these, and only where a write to `out` failed; a prefix of the lines
+/// stands there then.
 ///
 /// `Usage` comes exactly where `words` aren't `run`, or `run --threads N` or `run --threads N,M` with one
 /// default and no interactive worker, `ReadFault` only where a read of `source` failed, `TooLarge`
@@ -207,11 +205,11 @@ pub fn plain_tool<S: Source, O: Sink, N: Sink>(
     ensures usage { result.status ≡ Usage ↔ (plain_sizes_named (map string_bytes words.now) ≡ None) }
     ensures read_fault { result.status ≡ ReadFault → Rose (S.faults source.old) (S.faults source.new) }
     ensures too_large { result.status ≡ TooLarge → Gives (S.left source.old) (S.left source.new) (most_script + 1) }
-    ensures whole { (chosen : SizesOf) → plain_sizes_named (map string_bytes words.now) ≡ Some chosen → WasRead result.status → AnswersSource chosen (S.left source.old) (S.left source.new) result.status result.history.items (O.written out.old) (O.written out.new) }
+    ensures whole { (chosen : SizesOf) → plain_sizes_named (map string_bytes words.now) ≡ Some chosen → ReadWhole result.status → AnswersSource chosen (S.left source.old) (S.left source.new) result.status result.history.items (O.written out.old) (O.written out.new) }
     ensures write_fault { result.status ≡ WriteFault → Rose (O.faults out.old) (O.faults out.new) }
     ensures nothing { WroteNothing result.status → out.new ≡ out.old }
     ensures no_run { WroteNothing result.status → result.history.items ≡ [] }
-    ensures noted { ¬ Rose (N.faults notes.old) (N.faults notes.new) → Appends (N.written notes.old) (N.written notes.new) (note_of result.status) }
+    ensures noted { ¬ Rose (N.faults notes.old) (N.faults notes.new) → Appends (N.written notes.old) (N.written notes.new) (status_note result.status) }
     ensures complete { (chosen : SizesOf) → plain_sizes_named (map string_bytes words.now) ≡ Some chosen → ¬ Rose (S.faults source.old) (S.faults source.new) → ¬ Rose (O.faults out.old) (O.faults out.new)
         → IsAccepted (S.left source.old) → IsOfRun result.status }
 {
@@ -233,11 +231,11 @@ pub fn run_tool<R: Threads + Wait + Sync, S: Source, O: Sink, N: Sink, G: Gate>(
     ensures usage { result.status ≡ Usage ↔ (sizes_named (map string_bytes words.now) ≡ None) }
     ensures read_fault { result.status ≡ ReadFault → Rose (S.faults source.old) (S.faults source.new) }
     ensures too_large { result.status ≡ TooLarge → Gives (S.left source.old) (S.left source.new) (most_script + 1) }
-    ensures whole { (chosen : SizesOf) → sizes_named (map string_bytes words.now) ≡ Some chosen → WasRead result.status → AnswersSource chosen (S.left source.old) (S.left source.new) result.status result.history.items (O.written out.old) (O.written out.new) }
+    ensures whole { (chosen : SizesOf) → sizes_named (map string_bytes words.now) ≡ Some chosen → ReadWhole result.status → AnswersSource chosen (S.left source.old) (S.left source.new) result.status result.history.items (O.written out.old) (O.written out.new) }
     ensures write_fault { result.status ≡ WriteFault → Rose (O.faults out.old) (O.faults out.new) }
     ensures nothing { WroteNothing result.status → out.new ≡ out.old }
     ensures no_run { WroteNothing result.status → result.history.items ≡ [] }
-    ensures noted { ¬ Rose (N.faults notes.old) (N.faults notes.new) → Appends (N.written notes.old) (N.written notes.new) (note_of result.status) }
+    ensures noted { ¬ Rose (N.faults notes.old) (N.faults notes.new) → Appends (N.written notes.old) (N.written notes.new) (status_note result.status) }
     ensures complete { (chosen : SizesOf) → sizes_named (map string_bytes words.now) ≡ Some chosen → ¬ Rose (S.faults source.old) (S.faults source.new) → ¬ Rose (O.faults out.old) (O.faults out.new)
         → IsAccepted (S.left source.old) → IsOfRun result.status }
 {

@@ -4,4 +4,4 @@ use Rattle.jt_tool.proofs.command.number_up_to.Given as goal
 
 abbrev pub invariant-loop-digit : goal.invariant-loop-digit
 invariant-loop-digit l =
-    (spec.within 0 l.fn.most (spec.number_from l.number (drop l.digit-index l.text)) ≡ spec.within 0 l.fn.most (spec.number_from 0 l.fn.text)) × (l.number ≤ l.fn.most)
+    (spec.in_range 0 l.fn.most (spec.decimal_from l.number (drop l.digit-index l.text)) ≡ spec.in_range 0 l.fn.most (spec.decimal_from 0 l.fn.text)) × (l.number ≤ l.fn.most)
