@@ -7,7 +7,7 @@ use crate::path::{Path, SHARDS};
 
 /// An object's name: the path of the task that made it, and how many objects that task had made
 /// before.
-#[derive(PartialEq, Eq, PartialOrd, Ord, Debug, Drop)]
+#[derive(PartialEq, Eq, PartialOrd, Ord, Hash, Debug, Drop)]
 pub struct Name {
     pub path: Path,
     pub number: u32,

@@ -8,7 +8,7 @@ use crate::operation::Op;
 use crate::path::Path;
 
 /// What an operation acts on: the printer, a task's completion, or an object with a name.
-#[derive(PartialEq, Eq, PartialOrd, Ord, Debug, Drop)]
+#[derive(PartialEq, Eq, PartialOrd, Ord, Hash, Debug, Drop)]
 pub enum Object {
     /// The one printer of the run.
     Printer,

@@ -8,6 +8,7 @@ ghost use Rattle.jt_base.specs.Names.{shard_of, most_indexes};
 
 use arrayvec::ArrayVec;
 use std::cmp::Ordering;
+use std::hash::{Hash, Hasher};
 use std::marker::Model;
 use thiserror::Error;
 
@@ -148,5 +149,19 @@ impl Ord for Path {
 
     fn cmp(&self, other: &Self) -> Ordering {
         self.indexes().cmp(&other.indexes())
+    }
+}
+
+impl Hash for Path {
+    ghost use Rattle.std.specs.Hash as fed;
+    ghost use Rattle.std.specs.Hash.{items_Alike, same_Alike};
+    ghost use Rattle.std.proofs.lemmas.Bool.Decides.{Decides-eqb};
+
+    ghost hash_input = { λ p. fed.slice fed.u32 p };
+
+    ghost respects_eq = { (items_Alike (same_Alike fed.u32 Decides-eqb)).fed };
+
+    fn hash<H: Hasher>(&self, state: &mut H) {
+        self.indexes().hash(state);
     }
 }
