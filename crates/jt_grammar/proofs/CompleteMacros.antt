@@ -3,8 +3,8 @@ use Rattle.std.proofs.Common.{◌≡◌, ℕ, suc, ◌≤◌, true, false, true�
 use Rattle.jt_syntax.specs.Tree.{Tree, Step, Steps}
 use Rattle.jt_syntax.specs.Tree as tree
 use Rattle.jt_syntax.specs.declared.script.Identifier.{Identifier}
-use Rattle.jt_syntax.specs.declared.script.Pool.{Pool}
-use Rattle.jt_syntax.specs.declared.script.Pool.TheVariants as pools
+use Rattle.jt_syntax.specs.declared.script.PoolName.{PoolName}
+use Rattle.jt_syntax.specs.declared.script.PoolName.TheVariants as pools
 use Rattle.jt_syntax.specs.declared.script.Schedule.{Schedule}
 use Rattle.jt_syntax.specs.declared.script.Schedule.TheVariants as schedules
 use Rattle.jt_syntax.specs.declared.token.Sign.TheVariants as sign
@@ -34,11 +34,11 @@ module _ (n d : ℕ) (expr_in : Level → Parser Tree) (step_in : Parser Step) (
   abbrev NoColon : Kinds
   NoColon k = is sign.Colon k ≡ false
 
-  pool_known : (p : Pool) (ts : List Token) → pool_named n d expr_in step_in (pool_word p) ts ≡ (skip >> pure (Some p)) ts
+  pool_known : (p : PoolName) (ts : List Token) → pool_named n d expr_in step_in (pool_word p) ts ≡ (skip >> pure (Some p)) ts
   pool_known pools.Default ts = refl
   pool_known pools.Interactive ts = refl
 
-  pool_complete : (p : Option Pool) → Takes n (PoolWord p) NoColon (pool n d expr_in step_in) p
+  pool_complete : (p : Option PoolName) → Takes n (PoolWord p) NoColon (pool n d expr_in step_in) p
   unfolding pool
   pool_complete None = nothing _ None (λ rest s. rw s refl)
   pool_complete (Some p) = on_yes sign.Colon _ _ (lead_then (lead_mark (known sign.Colon))) (seen _ (λ at.
@@ -54,7 +54,7 @@ module _ (n d : ℕ) (expr_in : Level → Parser Tree) (step_in : Parser Step) (
   schedule_complete (Some p) = on_yes sign.Colon _ _ (lead_then (lead_mark (known sign.Colon))) (seen _ (λ at.
       by (schedule_by n d expr_in step_in) (kind.Name (schedule_word p)) (lead_letters refl) (always (somewhere (token (kind.Name (schedule_word p))) _ (Some p) (λ at ts. schedule_known p (token (kind.Name (schedule_word p)) at ∷ ts))))))
 
-  spawned_complete : (at : ℕ) (p : Option Pool) (e : Tree) → Within d (tree.spawn at p e) → Takes n (Spells (tree.spawn at p e)) (Stops 1) (spawned n d expr_in step_in) (tree.spawn at p e)
+  spawned_complete : (at : ℕ) (p : Option PoolName) (e : Tree) → Within d (tree.spawn at p e) → Takes n (Spells (tree.spawn at p e)) (Stops 1) (spawned n d expr_in step_in) (tree.spawn at p e)
   spawned_complete at p e o = opened_at (λ k. Within k e) d _ o (λ k is_d o'. then _ (pool_complete p) (lead_any e (lit≤ tt) no_colon) (last _ ((below k is_d).whole_read e o') (λ k s. s) (λ rest s. refl)))
 
   async_complete : (at : ℕ) (e : Tree) → Within d (tree.async at e) → Takes n (Spells (tree.async at e)) (Stops 1) (async_spawned n d expr_in step_in) (tree.async at e)

@@ -9,7 +9,7 @@ use Rattle.jt_syntax.specs.declared.operator.Class.TheVariants as class
 use Rattle.jt_syntax.specs.declared.operator.Connective.TheVariants as connective
 use Rattle.jt_syntax.specs.declared.operator.UnaryOperator.TheVariants as unary
 use Rattle.jt_syntax.specs.declared.script.Identifier.{Identifier}
-use Rattle.jt_syntax.specs.declared.script.Pool.TheVariants as pools
+use Rattle.jt_syntax.specs.declared.script.PoolName.TheVariants as pools
 use Rattle.jt_syntax.specs.declared.token.Sign.{Sign}
 use Rattle.jt_syntax.specs.declared.token.Sign.TheVariants as sign
 use Rattle.jt_syntax.specs.declared.token.Token.{Token}

@@ -12,7 +12,7 @@ use Rattle.jt_syntax.specs.declared.operator.Connective.TheVariants as connectiv
 use Rattle.jt_syntax.specs.declared.operator.UnaryOperator.{UnaryOperator}
 use Rattle.jt_syntax.specs.declared.operator.UnaryOperator.TheVariants as unary_operator
 use Rattle.jt_syntax.specs.declared.script.Identifier.{Identifier}
-use Rattle.jt_syntax.specs.declared.script.Pool.TheVariants as pools
+use Rattle.jt_syntax.specs.declared.script.PoolName.TheVariants as pools
 use Rattle.jt_syntax.specs.declared.script.Schedule.{Schedule}
 use Rattle.jt_syntax.specs.declared.script.Schedule.TheVariants as schedules
 use Rattle.jt_syntax.specs.declared.token.Sign.{Sign}

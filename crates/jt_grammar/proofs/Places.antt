@@ -5,7 +5,7 @@ use Rattle.jt_syntax.specs.Tree as tree
 use Rattle.jt_syntax.specs.View.{connective_class}
 use Rattle.jt_syntax.specs.declared.operator.Class.{Class}
 use Rattle.jt_syntax.specs.declared.script.Identifier.{Identifier}
-use Rattle.jt_syntax.specs.declared.script.Pool.{Pool}
+use Rattle.jt_syntax.specs.declared.script.PoolName.{PoolName}
 use Rattle.jt_syntax.specs.declared.script.Schedule.{Schedule}
 use Rattle.jt_syntax.specs.declared.token.Sign.{Sign}
 use Rattle.jt_syntax.specs.declared.token.Sign.TheVariants as sign
@@ -121,7 +121,7 @@ nothing g = alike_none g.to (g.alike ∙ ap kinds g.spelled)
 int64 : (g : Shifted OfInt64) → OfInt64 g.to
 int64 g = both g (one (first g)) (both (rest g) (one (first (rest g))) (one (rest (rest g))))
 
-pool_word : (p : Option Pool) (g : Shifted (PoolWord p)) → PoolWord p g.to
+pool_word : (p : Option PoolName) (g : Shifted (PoolWord p)) → PoolWord p g.to
 pool_word None g = nothing g
 pool_word (Some p) g = both g (one (first g)) (one (rest g))
 

@@ -12,8 +12,8 @@ use Rattle.jt_syntax.specs.declared.operator.Class.{Class}
 use Rattle.jt_syntax.specs.declared.operator.UnaryOperator.{UnaryOperator}
 use Rattle.jt_syntax.specs.declared.operator.UnaryOperator.TheVariants as unary
 use Rattle.jt_syntax.specs.declared.script.Identifier.{Identifier}
-use Rattle.jt_syntax.specs.declared.script.Pool.{Pool}
-use Rattle.jt_syntax.specs.declared.script.Pool.TheVariants as pool
+use Rattle.jt_syntax.specs.declared.script.PoolName.{PoolName}
+use Rattle.jt_syntax.specs.declared.script.PoolName.TheVariants as pool
 use Rattle.jt_syntax.specs.declared.script.Schedule.{Schedule}
 use Rattle.jt_syntax.specs.declared.script.Schedule.TheVariants as schedule
 use Rattle.jt_syntax.specs.declared.token.Sign.{Sign}
@@ -233,7 +233,7 @@ module _ (P : TokenKind → Type 0) (allows : Allows P) where
   int64_at : Prints P OfInt64 of_int64
   int64_at = seq (sign_at sign.OpenCurly tt) (seq (sign_at sign.Int64 tt) (sign_at sign.CloseCurly tt))
 
-  pool_at : (p : Option Pool) → Prints P (PoolWord p) (pool_kinds p)
+  pool_at : (p : Option PoolName) → Prints P (PoolWord p) (pool_kinds p)
   pool_at None = nothing_at
   pool_at (Some pool.Default) = seq colon_at (letters (codes "default") allows.default)
   pool_at (Some pool.Interactive) = seq colon_at (letters (codes "interactive") allows.interactive)

@@ -5,7 +5,7 @@ use Rattle.std.specs.Str.{bytes_eq}
 use Rattle.jt_syntax.specs.Tree.{Tree, Step, Steps}
 use Rattle.jt_syntax.specs.Tree as tree
 use Rattle.jt_syntax.specs.declared.script.Identifier.{Identifier}
-use Rattle.jt_syntax.specs.declared.script.Pool.TheVariants as pools
+use Rattle.jt_syntax.specs.declared.script.PoolName.TheVariants as pools
 use Rattle.jt_syntax.specs.declared.script.Schedule.{Schedule}
 use Rattle.jt_syntax.specs.declared.script.Schedule.TheVariants as schedules
 use Rattle.jt_syntax.specs.declared.token.Sign.{Sign}

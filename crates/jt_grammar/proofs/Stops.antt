@@ -10,7 +10,7 @@ use Rattle.jt_syntax.specs.declared.operator.Class.{Class}
 use Rattle.jt_syntax.specs.declared.operator.UnaryOperator.{UnaryOperator}
 use Rattle.jt_syntax.specs.declared.operator.UnaryOperator.TheVariants as unary
 use Rattle.jt_syntax.specs.declared.script.Identifier.{Identifier}
-use Rattle.jt_syntax.specs.declared.script.Pool.{Pool}
+use Rattle.jt_syntax.specs.declared.script.PoolName.{PoolName}
 use Rattle.jt_syntax.specs.declared.script.Schedule.{Schedule}
 use Rattle.jt_syntax.specs.declared.token.Sign.{Sign}
 use Rattle.jt_syntax.specs.declared.token.Sign.TheVariants as sign
@@ -88,7 +88,7 @@ of_int64 = parts (mark sign.OpenCurly no) (parts (mark sign.Int64 no) (mark sign
 in_or_assign : Free InOrAssign
 in_or_assign = one_of (mark sign.In no) (mark sign.Assign no)
 
-pool : (o : Option Pool) → Free (PoolWord o)
+pool : (o : Option PoolName) → Free (PoolWord o)
 pool None = nothing
 pool (Some p) = parts (mark sign.Colon no) (letters (pool_word p))
 

@@ -12,8 +12,8 @@ use Rattle.jt_syntax.specs.declared.operator.Class.TheVariants as class
 use Rattle.jt_syntax.specs.declared.operator.UnaryOperator.{UnaryOperator}
 use Rattle.jt_syntax.specs.declared.operator.UnaryOperator.TheVariants as unary
 use Rattle.jt_syntax.specs.declared.script.Identifier.{Identifier}
-use Rattle.jt_syntax.specs.declared.script.Pool.{Pool}
-use Rattle.jt_syntax.specs.declared.script.Pool.TheVariants as pool
+use Rattle.jt_syntax.specs.declared.script.PoolName.{PoolName}
+use Rattle.jt_syntax.specs.declared.script.PoolName.TheVariants as pool
 use Rattle.jt_syntax.specs.declared.script.Schedule.{Schedule}
 use Rattle.jt_syntax.specs.declared.script.Schedule.TheVariants as schedule
 use Rattle.jt_syntax.specs.declared.token.Sign.{Sign}
@@ -156,11 +156,11 @@ OfInt64 = Mark sign.OpenCurly ▸ Mark sign.Int64 ▸ Mark sign.CloseCurly
 abbrev pub InOrAssign : Rule
 InOrAssign = Mark sign.In ∣ Mark sign.Assign
 
-abbrev pub pool_word : Pool → List ℕ
+abbrev pub pool_word : PoolName → List ℕ
 pool_word pool.Default = codes "default"
 pool_word pool.Interactive = codes "interactive"
 
-abbrev pub PoolWord : Option Pool → Rule
+abbrev pub PoolWord : Option PoolName → Rule
 PoolWord None = Nothing
 PoolWord (Some p) = Mark sign.Colon ▸ Letters (pool_word p)
 

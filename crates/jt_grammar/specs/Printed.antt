@@ -5,7 +5,7 @@ use Rattle.jt_syntax.specs.Tree.{Tree, Trees, Terms, Arms, Leap, Step, Steps, Fo
 use Rattle.jt_syntax.specs.Tree as tree
 use Rattle.jt_syntax.specs.declared.operator.BinaryOperator.TheVariants as binary
 use Rattle.jt_syntax.specs.declared.script.Identifier.{Identifier}
-use Rattle.jt_syntax.specs.declared.script.Pool.{Pool}
+use Rattle.jt_syntax.specs.declared.script.PoolName.{PoolName}
 use Rattle.jt_syntax.specs.declared.script.Schedule.{Schedule}
 use Rattle.jt_syntax.specs.declared.token.Sign.{Sign}
 use Rattle.jt_syntax.specs.declared.token.Sign.TheVariants as sign
@@ -36,7 +36,7 @@ truth_kinds false = mark sign.False
 abbrev pub of_int64 : List TokenKind
 of_int64 = mark sign.OpenCurly ⁀ mark sign.Int64 ⁀ mark sign.CloseCurly
 
-abbrev pub pool_kinds : Option Pool → List TokenKind
+abbrev pub pool_kinds : Option PoolName → List TokenKind
 pool_kinds None = []
 pool_kinds (Some p) = mark sign.Colon ⁀ word (pool_word p)
 

@@ -18,8 +18,8 @@ use Rattle.jt_syntax.specs.declared.operator.Connective.TheVariants as connectiv
 use Rattle.jt_syntax.specs.declared.operator.UnaryOperator.{UnaryOperator}
 use Rattle.jt_syntax.specs.declared.operator.UnaryOperator.TheVariants as unary_operator
 use Rattle.jt_syntax.specs.declared.script.Identifier.{Identifier}
-use Rattle.jt_syntax.specs.declared.script.Pool.{Pool}
-use Rattle.jt_syntax.specs.declared.script.Pool.TheVariants as pools
+use Rattle.jt_syntax.specs.declared.script.PoolName.{PoolName}
+use Rattle.jt_syntax.specs.declared.script.PoolName.TheVariants as pools
 use Rattle.jt_syntax.specs.declared.script.Schedule.{Schedule}
 use Rattle.jt_syntax.specs.declared.script.Schedule.TheVariants as schedules
 use Rattle.jt_syntax.specs.declared.token.Sign.{Sign}
@@ -610,16 +610,16 @@ module _ (turns depth : ℕ) (expr_in : Level → Parser Tree) (step_in : Parser
 
   -- ---- macros
 
-  abbrev pub pool_named : List ℕ → Parser (Option Pool)
+  abbrev pub pool_named : List ℕ → Parser (Option PoolName)
   pool_named n = if bytes_eq n (codes "default") then (skip >> pure (Some pools.Default)) else (if bytes_eq n (codes "interactive") then (skip >> pure (Some pools.Interactive)) else refuse)
 
-  abbrev pub pool_by : TokenKind → Parser (Option Pool)
+  abbrev pub pool_by : TokenKind → Parser (Option PoolName)
   pool_by (kind.Name n) = pool_named n
   pool_by (kind.Sign _) = refuse
   pool_by (kind.Number _) = refuse
   pool_by (kind.Text _) = refuse
 
-  unfoldable pub pool : Parser (Option Pool)
+  unfoldable pub pool : Parser (Option PoolName)
   pool = on sign.Colon (skip >> by_kind pool_by) (pure None)
 
   abbrev pub schedule_named : List ℕ → Parser (Option Schedule)

@@ -6,7 +6,7 @@ ghost use Rattle.jt_grammar.specs.Printed.{◌⁀◌, mark, word, quoted, truth_
 ghost use Rattle.jt_printer.specs.Kinds.{Adds};
 
 use crate::memory::OutOfMemory;
-use jt_syntax::{Identifier, Pool, Schedule, Sign, TokenKind};
+use jt_syntax::{Identifier, PoolName, Schedule, Sign, TokenKind};
 use sqlite_items::Items;
 use std::alloc::Global;
 
@@ -112,13 +112,13 @@ impl Kinds {
         self.sign(Sign::CloseSquare)
     }
 
-    pub(crate) fn pool(&mut self, pool: Option<Pool>) -> Result<(), OutOfMemory>
+    pub(crate) fn pool(&mut self, pool: Option<PoolName>) -> Result<(), OutOfMemory>
         ensures { Adds (pool_kinds pool) self.old.kinds.items result self.new.kinds.items }
     {
         let word: &[u8] = match pool {
             None => return Ok(()),
-            Some(Pool::Default) => b"default",
-            Some(Pool::Interactive) => b"interactive",
+            Some(PoolName::Default) => b"default",
+            Some(PoolName::Interactive) => b"interactive",
         };
         self.sign(Sign::Colon)?;
         self.word(word)

@@ -13,7 +13,7 @@ use crate::memory::OutOfMemory;
 use crate::operator::{assignment_sign, unary_sign};
 use jt_syntax::{
     ArithmeticOperator, Arm, AssignmentOperator, BinaryOperator, Connective, Expr, Identifier,
-    Item, Jump, Pool, Schedule, Sign, Stmt, UnaryOperator,
+    Item, Jump, PoolName, Schedule, Sign, Stmt, UnaryOperator,
 };
 use sqlite_items::{Boxed, Items};
 
@@ -318,7 +318,7 @@ impl Kinds {
     }
 
     #[cycle(expression)]
-    fn spawn(&mut self, pool: Option<Pool>, body: &Boxed<Expr>) -> Result<(), OutOfMemory>
+    fn spawn(&mut self, pool: Option<PoolName>, body: &Boxed<Expr>) -> Result<(), OutOfMemory>
         ensures { Adds (mark sign.Spawn ⁀ pool_kinds pool ⁀ tree_kinds (view body.now)) self.old.kinds.items result self.new.kinds.items }
     {
         self.sign(Sign::Spawn)?;

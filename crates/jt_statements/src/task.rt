@@ -11,7 +11,7 @@ use crate::phrases::Phrases;
 use jt_cursor::{Cursor, Failure, Kind, is_spelled};
 use jt_expressions::Nested;
 use jt_grammar::Level;
-use jt_syntax::{Expr, Identifier, Pool, Schedule, Sign, Stmt};
+use jt_syntax::{Expr, Identifier, PoolName, Schedule, Sign, Stmt};
 use sqlite_items::{Boxed, Items};
 
 /// A loop over a range.
@@ -66,22 +66,22 @@ fn range_loop_of(expr: Boxed<Expr>) -> Option<RangeLoop>
 }
 
 impl<N: Nested> Phrases<N> {
-    fn pool_named(&self, tokens: &mut Cursor<'_>, name: &[u8]) -> Result<Option<Pool>, Failure>
+    fn pool_named(&self, tokens: &mut Cursor<'_>, name: &[u8]) -> Result<Option<PoolName>, Failure>
         ensures { Parses same (nested spec.pool_named self.now.rules.turns self.now.rules.depth name.now tokens.old) result tokens.new }
     {
         if is_spelled(name, b"default") {
             tokens.skip()?;
-            return Ok(Some(Pool::Default));
+            return Ok(Some(PoolName::Default));
         }
         if is_spelled(name, b"interactive") {
             tokens.skip()?;
-            return Ok(Some(Pool::Interactive));
+            return Ok(Some(PoolName::Interactive));
         }
         Err(tokens.refuse())
     }
 
     #[tactic(auto, unfolding(jt_grammar::specs::Reader::pool))]
-    fn pool(&self, tokens: &mut Cursor<'_>) -> Result<Option<Pool>, Failure>
+    fn pool(&self, tokens: &mut Cursor<'_>) -> Result<Option<PoolName>, Failure>
         ensures { Parses same (nested spec.pool self.now.rules.turns self.now.rules.depth tokens.old) result tokens.new }
     {
         if !tokens.sees(Sign::Colon) {

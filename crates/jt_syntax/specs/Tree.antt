@@ -6,7 +6,7 @@ use Rattle.jt_syntax.specs.declared.operator.Class.{Class}
 use Rattle.jt_syntax.specs.declared.operator.Connective.{Connective}
 use Rattle.jt_syntax.specs.declared.operator.UnaryOperator.{UnaryOperator}
 use Rattle.jt_syntax.specs.declared.script.Identifier.{Identifier}
-use Rattle.jt_syntax.specs.declared.script.Pool.{Pool}
+use Rattle.jt_syntax.specs.declared.script.PoolName.{PoolName}
 use Rattle.jt_syntax.specs.declared.script.Schedule.{Schedule}
 
 mutual
@@ -39,7 +39,7 @@ mutual
     while : Tree → Steps → Tree
     for_range : Identifier → Tree → Tree → Steps → Tree
     for_each : Identifier → Tree → Steps → Tree
-    spawn : ℕ → Option Pool → Tree → Tree
+    spawn : ℕ → Option PoolName → Tree → Tree
     async : ℕ → Tree → Tree
     sync : Tree → Tree
     threads : ℕ → Option Schedule → Identifier → Tree → Tree → Steps → Tree

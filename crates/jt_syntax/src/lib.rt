@@ -10,5 +10,7 @@ pub use operator::{
     ArithmeticOperator, AssignmentOperator, BinaryOperator, Class, ComparisonOperator, Connective,
     UnaryOperator,
 };
-pub use script::{Arm, Expr, Identifier, Item, Jump, Pool, Schedule, Script, Stmt, Top, TopForm};
+pub use script::{
+    Arm, Expr, Identifier, Item, Jump, PoolName, Schedule, Script, Stmt, Top, TopForm,
+};
 pub use token::{Sign, Token, TokenKind};

@@ -33,7 +33,7 @@ impl Identifier {
 
 /// The pool that a task is spawned for, by its word.
 #[derive(Clone, Copy, Debug, PartialEq, Eq)]
-pub enum Pool {
+pub enum PoolName {
     Default,
     Interactive,
 }
@@ -100,7 +100,7 @@ pub enum Expr {
     /// `for name in channel .. end`
     ForEach(Identifier, Boxed<Expr>, Items<Stmt>),
     /// `@spawn` with the place of its word, the pool if one is named, and the task's body.
-    Spawn(u32, Option<Pool>, Boxed<Expr>),
+    Spawn(u32, Option<PoolName>, Boxed<Expr>),
     /// `@async` with the place of its word, and the task's body.
     Async(u32, Boxed<Expr>),
     /// `@sync` with what it waits for.
