@@ -11,7 +11,6 @@ ghost use Rattle.jt_conditions.specs.Absences.{kept_at};
 use indexmap::IndexMap;
 use jt_base::{OutOfMemory, Path};
 use std::alloc::Global;
-use std::hash::{Hash, Hasher};
 use std::marker::Model;
 
 /// What is kept of a task that waits on a condition, or was notified and is not back.
@@ -73,54 +72,6 @@ impl Absence {
     }
 }
 
-/// A path as a key.
-#[derive(Debug, Drop)]
-struct TaskKey {
-    path: Path,
-}
-
-impl Model for TaskKey {
-    ghost use Rattle.std.specs.Prelude.{ℕ, List};
-
-    ghost Value = { List ℕ };
-
-    ghost view = { λ k. k.path };
-}
-
-impl PartialEq for TaskKey {
-    ghost use Rattle.std.specs.Prelude.{nat_eq};
-    ghost use Rattle.std.specs.Cmp.{partial_equiv_from_equiv};
-    ghost use Rattle.std.specs.Cmp.Lexicographic.{pointwise, nat_list_eq_equiv};
-
-    ghost eq = { λ p q. pointwise nat_eq p q };
-
-    ghost laws = { partial_equiv_from_equiv nat_list_eq_equiv };
-
-    fn eq(&self, other: &Self) -> bool {
-        self.path == other.path
-    }
-}
-
-impl Eq for TaskKey {
-    ghost use Rattle.std.specs.Cmp.Lexicographic.{nat_list_eq_equiv};
-
-    ghost laws = { nat_list_eq_equiv };
-}
-
-impl Hash for TaskKey {
-    ghost use Rattle.std.specs.Hash as fed;
-    ghost use Rattle.std.specs.Hash.{items_Alike, same_Alike};
-    ghost use Rattle.std.proofs.lemmas.Bool.Decides.{Decides-eqb};
-
-    ghost hash_input = { λ p. fed.slice fed.u32 p };
-
-    ghost respects_eq = { (items_Alike (same_Alike fed.u32 Decides-eqb)).fed };
-
-    fn hash<H: Hasher>(&self, state: &mut H) {
-        self.path.indexes().hash(state);
-    }
-}
-
 /// An absence as it is stored.
 #[derive(Clone, Copy, Debug)]
 struct Kept {
@@ -150,7 +101,7 @@ const MOST_WAITS: u64 = 1 << 32;
 /// The tasks that are away, with room that is reserved beforehand.
 #[derive(Debug, Drop)]
 pub(crate) struct Absences {
-    tasks: IndexMap<TaskKey, Kept>,
+    tasks: IndexMap<Path, Kept>,
     /// How many waits were made since no task was away.
     made: u64,
     /// Up to which of these waits all were notified at once.
@@ -261,8 +212,7 @@ impl Absences {
     fn remove(&mut self, task: &Path)
         ensures { self.new.state ≡ map.remove self.old.state task.now }
     {
-        let key = TaskKey { path: task.copy() };
-        self.tasks.swap_remove(&key);
+        self.tasks.swap_remove(task);
         if self.tasks.is_empty() {
             self.made = 0;
             self.woken = 0;
@@ -271,20 +221,18 @@ impl Absences {
 }
 
 /// What is stored of the task.
-fn find(tasks: &IndexMap<TaskKey, Kept>, task: &Path) -> Option<Kept>
+fn find(tasks: &IndexMap<Path, Kept>, task: &Path) -> Option<Kept>
     ensures { result ≡ kept_at tasks.now.entries task.now }
 {
-    let key = TaskKey { path: task.copy() };
-    tasks.get(&key).copied()
+    tasks.get(task).copied()
 }
 
 /// Stores this of the task. Only a task of which nothing was stored needs room.
-fn put(tasks: &mut IndexMap<TaskKey, Kept>, task: &Path, kept: Kept)
+fn put(tasks: &mut IndexMap<Path, Kept>, task: &Path, kept: Kept)
     requires { kept_at tasks.old.entries task.now ≡ None → 0 < spare tasks.old }
     ensures { (q : List ℕ) → kept_at tasks.new.entries q ≡ cond (pointwise nat_eq task.now q) (Some kept) (kept_at tasks.old.entries q) }
 {
-    let key = TaskKey { path: task.copy() };
-    match tasks.insert(key, kept) {
+    match tasks.insert(task.copy(), kept) {
         Ok(_) => {}
         Err(_) => unreachable!(),
     }
