@@ -1,5 +1,5 @@
 -- The smallest of stamps, and the only log with entries, step by step.
-use Rattle.std.proofs.Common.{◌≡◌, ◌≢◌, ℕ, zero, suc, ◌+◌, ◌<◌, List, [], ◌∷◌, Option, Some, None, refl, sym, ap, ◌∙◌, subst, arith, length, map, get_or, set, drop, Bool, true, nat_eq, MatchOption, Vec, vec_len, deque_items, deque_len}
+use Rattle.std.proofs.Common.{◌≡◌, ◌≢◌, ℕ, zero, suc, ◌+◌, ◌<◌, List, [], ◌∷◌, Option, Some, None, refl, sym, ap, ◌∙◌, subst, arith, length, map, get_or, set, drop, slice_get, Bool, true, nat_eq, MatchOption, Vec, vec_len, deque_items}
 use Rattle.std.specs.declared.collections.VecDeque.{VecDeque}
 use Rattle.std.specs.Global.{Global}
 use Rattle.std.proofs.lemmas.Bool.{cases_eq, cases_lt, eqb-true}
@@ -44,12 +44,12 @@ none_left left stamps s n k = empty (get_or left k []) (sym (first_at left k) �
     empty (x ∷ xs) e = absurd (cc e)
 
 -- the first entry of a log is taken
-take_log : (left : List (List Entry)) (stamps : List (Option ℕ)) → stamps ≡ map first_stamp left → (at : ℕ) → IsFirst stamps at → (log : List Entry) → get_or left at [] ≡ log → (r : Option Entry) → ((d : Entry) → 0 < length log → r ≡ Some (get_or log 0 d)) → MatchOption r ((k : ℕ) → get_or left k [] ≡ []) (λ e. Takes left e (set left at (drop 1 log)))
+take_log : (left : List (List Entry)) (stamps : List (Option ℕ)) → stamps ≡ map first_stamp left → (at : ℕ) → IsFirst stamps at → (log : List Entry) → get_or left at [] ≡ log → (r : Option Entry) → r ≡ slice_get log 0 → MatchOption r ((k : ℕ) → get_or left k [] ≡ []) (λ e. Takes left e (set left at (drop 1 log)))
 take_log left stamps s at f [] t r v = absurd (gone (sym f.least.there ∙ ap (λ xs. get_or xs at None) s ∙ first_at left at ∙ ap first_stamp t))
   where
     gone : {n : ℕ} → Some n ≡ None → ⊥
     gone q = cc
-take_log left stamps s at f (x ∷ xs) t r v = subst (λ o. MatchOption o ((k : ℕ) → get_or left k [] ≡ []) (λ e. Takes left e (set left at xs))) (sym (v x (omega arith))) (record {
+take_log left stamps s at f (x ∷ xs) t r v = subst (λ o. MatchOption o ((k : ℕ) → get_or left k [] ≡ []) (λ e. Takes left e (set left at xs))) (sym v) (record {
   at = at;
   rest = xs;
   there = t;
@@ -77,11 +77,11 @@ module _ (logs : List (VecDeque Entry Global)) (stamps : List (Option ℕ)) (s :
       ∙ sym (map-set first_stamp (map deque_items logs) at after.items)
       ∙ ap (map first_stamp) (sym (map-set deque_items logs at after))
 
-  pub take_first : (at : ℕ) → IsFirst stamps at → (q : VecDeque Entry Global) → q ≡ get_or logs at q → (r : Option Entry) → ((d : Entry) → 0 < deque_len q → r ≡ Some (get_or q.items 0 d)) → (after : VecDeque Entry Global) → after.items ≡ drop 1 q.items → (now : List (List Entry)) → map deque_items logs ≡ now → MatchOption r ((k : ℕ) → get_or now k [] ≡ []) (λ e. Takes now e (map deque_items (set logs at after)))
+  pub take_first : (at : ℕ) → IsFirst stamps at → (q : VecDeque Entry Global) → q ≡ get_or logs at q → (r : Option Entry) → r ≡ slice_get q.items 0 → (after : VecDeque Entry Global) → after.items ≡ drop 1 q.items → (now : List (List Entry)) → map deque_items logs ≡ now → MatchOption r ((k : ℕ) → get_or now k [] ≡ []) (λ e. Takes now e (map deque_items (set logs at after)))
   take_first at f q t r v after d now w =
       subst (λ ls. MatchOption r ((k : ℕ) → get_or now k [] ≡ []) (λ e. Takes now e ls))
       (ap (λ ls. set ls at (drop 1 q.items)) (sym w) ∙ ap (set (map deque_items logs) at) (sym d) ∙ sym (map-set deque_items logs at after))
-      (take_log now stamps (s ∙ ap (map first_stamp) w) at f q.items (ap (λ ls. get_or ls at []) (sym w) ∙ get_or-map deque_items logs at q [] (place_within at f) ∙ ap deque_items (sym t)) r (λ x l. v x (omega (arith, l, q.ok.0))))
+      (take_log now stamps (s ∙ ap (map first_stamp) w) at f q.items (ap (λ ls. get_or ls at []) (sym w) ∙ get_or-map deque_items logs at q [] (place_within at f) ∙ ap deque_items (sym t)) r v)
 
 -- a log as it is read
 module _ (logs : List (Vec Entry Global)) (k : ℕ) where

@@ -1,6 +1,6 @@
 //! The fronts of logs that are merged.
 
-ghost use Rattle.std.specs.Prelude.{◌≡◌, ℕ, [], None, map, get_or, IfOk, MatchOption};
+ghost use Rattle.std.specs.Prelude.{◌≡◌, ℕ, [], None, map, drop, get_or, slice_get, IfOk, MatchOption};
 ghost use Rattle.jt_histories.specs.Merges.{items_of};
 ghost use Rattle.jt_histories.specs.Fronts.{first_stamp, IsFirst, Takes};
 
@@ -54,6 +54,20 @@ fn earliest(stamps: &[Option<u32>]) -> Option<usize>
     Some(at)
 }
 
+/// Takes the log's first entry. Where a power of two of entries is left, the room of those that were
+/// taken is given back. All this together moves fewer than twice as many entries as the log had. The
+/// log stays as it is where there is no memory for that.
+fn take_first(log: &mut VecDeque<Entry>) -> Option<Entry>
+    ensures first { result ≡ slice_get log.old.items 0 }
+    ensures rest { log.new.items ≡ drop 1 log.old.items }
+{
+    let first = log.pop_front();
+    if log.len().is_power_of_two() {
+        log.shrink_to_fit();
+    }
+    first
+}
+
 impl Fronts {
     /// All of these logs. It moves no entry.
     pub(crate) fn new(alloc: Global, logs: Vec<Vec<Entry>>) -> Result<Fronts, OutOfMemory>
@@ -77,7 +91,7 @@ impl Fronts {
         let Some(at) = earliest(&self.stamps) else {
             return None;
         };
-        let entry = self.logs[at].pop_front();
+        let entry = take_first(&mut self.logs[at]);
         self.stamps[at] = stamp_of_first(&self.logs[at]);
         entry
     }

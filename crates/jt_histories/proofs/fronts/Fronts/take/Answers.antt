@@ -9,11 +9,11 @@ returns-in_default c = none_left c.args.self.now c.deref.result.now (c.deref.ens
 pub invariant_of-self : goal.invariant_of-self
 invariant_of-self c =
     let here = subst (λ stamps. IsFirst stamps c.in-Some.at) c.deref.ensures.value c.in-Some.ensures in
-    stamp_put c.self.inside.logs.items c.self.inside.stamps.items c.self.invariant c.in-Some.at here c.pop_front-entry.new.self
+    stamp_put c.self.inside.logs.items c.self.inside.stamps.items c.self.invariant c.in-Some.at here c.take_first-entry.new.log
     c.index.result.now c.index.ensures c.stamp_of_first.result c.stamp_of_first.ensures
 
 pub returns : goal.returns
 returns c =
     let here = subst (λ stamps. IsFirst stamps c.in-Some.at) c.deref.ensures.value c.in-Some.ensures in
     take_first c.self.inside.logs.items c.self.inside.stamps.items c.self.invariant c.in-Some.at here c.index_mut.result.now c.index_mut.ensures.value
-    c.pop_front-entry.result c.pop_front-entry.ensures.value c.pop_front-entry.new.self c.pop_front-entry.ensures.rest c.args.self.now c.self.view_is
+    c.take_first-entry.result c.take_first-entry.ensures.first c.take_first-entry.new.log c.take_first-entry.ensures.rest c.args.self.now c.self.view_is
