@@ -1,10 +1,1 @@
-pub mod Slots
-pub mod Made
-pub mod Behind
-pub mod Making
-pub mod Bound
-pub mod Programs
-pub mod States
-pub mod Walked
-pub mod WalkedPrograms
 pub mod Walks

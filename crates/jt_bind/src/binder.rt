@@ -4,14 +4,15 @@
 //! the tasks that are made there behind those before.
 
 ghost use Rattle.std.specs.Prelude.{◌≡◌, IfOk, OnOk, map, option_copied};
-ghost use Rattle.jt_bind.specs.Behind.{with_last};
-ghost use Rattle.jt_bind.specs.Bound.{piece_of};
-ghost use Rattle.jt_bind.specs.Made.{made, with, both, three};
-ghost use Rattle.jt_bind.specs.States as states;
-ghost use Rattle.jt_bind.specs.Walked as spec;
-ghost use Rattle.jt_bind.specs.Walks.{last_view, numbers, state};
-ghost use Rattle.jt_nodes.specs.Chains as chains;
-ghost use Rattle.jt_nodes.specs.Loops.{while_of, for_of, turn_plan};
+ghost use Rattle.jt_bound.specs.Behind.{with_last, last_view};
+ghost use Rattle.jt_bound.specs.Bound.{piece_of};
+ghost use Rattle.jt_bound.specs.Made.{made, with, both, three};
+ghost use Rattle.jt_bound.specs.States as states;
+ghost use Rattle.jt_bound.specs.Walked as spec;
+ghost use Rattle.jt_bind.specs.Walks.{numbers, state};
+ghost use Rattle.jt_lowered.specs.Chains as chains;
+ghost use Rattle.jt_lowered.specs.Loops.{while_of, for_of};
+ghost use Rattle.jt_nodes.specs.Views.{operands_plan, turn_plan};
 ghost use Rattle.jt_program.specs.Plan as plan;
 ghost use Rattle.jt_program.specs.View.{plan_of, choices_of, arm_plan, piece_plan};
 ghost use Rattle.jt_syntax.specs.Tree as tree;
@@ -19,13 +20,14 @@ ghost use Rattle.jt_syntax.specs.View.{view, views, item_view, item_views, term_
 
 use crate::target::{interpolated, slot_of, target_of};
 use crate::walk::Walk;
-use jt_names::{Functions, Names};
+use jt_names::Names;
 use jt_nodes::{
     Allocated, Operands, Turn, assignment, block, break_loop, call, callee, conditional,
     continue_loop, error, for_loop, guard, if_else, literal, nothing, number, operation_of_two,
     print, push, push_arm, push_text, push_value, return_value, sync, unary, while_loop, written,
 };
 use jt_program::{Arm, Literal, Piece};
+use jt_signatures::Functions;
 use jt_syntax::{
     ArithmeticOperator, BinaryOperator, Class, Connective, Expr, Identifier, Item, Jump, Stmt,
 };
@@ -263,7 +265,7 @@ impl Binder<'_> {
     /// The operands of a chain of this class behind its first one.
     #[cycle(bind)]
     fn operands(&self, walk: &mut Walk<'_>, class: Class, terms: &[Term]) -> Allocated<Operands>
-        ensures { IfOk result (λ p. with (chains.all_more (chains.none_of class)) (spec.walked_terms (numbers self.now) (state walk.old) (terms_of (map term_view terms.now))) ≡ made (chains.operands_plan p) (state walk.new)) }
+        ensures { IfOk result (λ p. with (chains.all_more (chains.none_of class)) (spec.walked_terms (numbers self.now) (state walk.old) (terms_of (map term_view terms.now))) ≡ made (operands_plan p) (state walk.new)) }
     {
         let mut operands = Operands::new(self.alloc, class);
         for term in terms {

@@ -1,10 +1,10 @@
 //! Whole scripts to programs.
 
 ghost use Rattle.std.specs.Prelude.{◌≡◌, ◌∷◌, [], List, OnOk, IfOk, map};
-ghost use Rattle.jt_bind.specs.Behind.{behind};
-ghost use Rattle.jt_bind.specs.Made.{made, with};
-ghost use Rattle.jt_bind.specs.Programs as spec;
-ghost use Rattle.jt_bind.specs.WalkedPrograms as walked;
+ghost use Rattle.jt_bound.specs.Behind.{behind};
+ghost use Rattle.jt_bound.specs.Made.{made, with};
+ghost use Rattle.jt_bound.specs.Programs as spec;
+ghost use Rattle.jt_bound.specs.WalkedPrograms as walked;
 ghost use Rattle.jt_bind.specs.Walks.{numbers, state};
 ghost use Rattle.jt_names.specs.Tops as tops;
 ghost use Rattle.jt_outline.specs.Outlines.{outline_of};
@@ -16,10 +16,11 @@ ghost use Rattle.jt_syntax.specs.View as trees;
 
 use crate::binder::Binder;
 use crate::walk::Walk;
-use jt_names::{Functions, Names};
+use jt_names::Names;
 use jt_nodes::{Allocated, block, define, nothing, push, push_body};
 use jt_program::{Body, Code, Program};
 use jt_scopes::Scope;
+use jt_signatures::Functions;
 use jt_syntax::{Expr, Identifier, Script, Top, TopForm};
 use sqlite_items::Items;
 use std::alloc::{AllocError, Global};
@@ -138,7 +139,7 @@ impl Binder<'_> {
 /// # Errors
 ///
 /// Where memory is wanting.
-#[tactic(auto, using(crate::proofs::Whole::program_tied))]
+#[tactic(auto, using(jt_bound::proofs::Whole::program_tied))]
 pub fn bind(
     alloc: Global,
     script: &Script,

@@ -1,10 +1,10 @@
 //! What names mean.
 
 ghost use Rattle.std.specs.Prelude.{◌≡◌};
-ghost use Rattle.jt_bind.specs.Slots as spec;
+ghost use Rattle.jt_bound.specs.Slots as spec;
 
+use jt_lowered::Target;
 use jt_names::Names;
-use jt_nodes::Target;
 use jt_places::Chain;
 
 fn constant(constants: &Names, name: &[u8]) -> Target

@@ -1,13 +1,14 @@
 //! The making of tasks: what a body's scope and the scopes round it say of it.
 
 ghost use Rattle.std.specs.Prelude.{◌≡◌, ◌+◌, ◌++◌, ◌∷◌, [], suc, length, map, IfOk, OnOk};
-ghost use Rattle.jt_bind.specs.Making as spec;
-ghost use Rattle.jt_bind.specs.Slots as slots;
-ghost use Rattle.jt_bind.specs.States as states;
-ghost use Rattle.jt_nodes.specs.Nodes.{body_of};
+ghost use Rattle.jt_bound.specs.Making as spec;
+ghost use Rattle.jt_bound.specs.Slots as slots;
+ghost use Rattle.jt_bound.specs.States as states;
+ghost use Rattle.jt_lowered.specs.Nodes.{body_of};
 ghost use Rattle.jt_program.specs.View.{plan_of, body_plan};
 
 use crate::target::slot_of;
+use jt_bound::Making;
 use jt_nodes::{Allocated, Node, push_body, sync};
 use jt_places::Chain;
 use jt_program::Body;
@@ -15,19 +16,6 @@ use jt_scopes::Scope;
 use jt_syntax::Identifier;
 use sqlite_items::Items;
 use std::alloc::{AllocError, Global};
-
-/// What is known of a task before its body is gone through.
-#[derive(Drop)]
-pub(crate) struct Making {
-    /// How many variables the body has, with what it captures.
-    pub variables: usize,
-    /// Where the maker has what the body captures.
-    pub captured: Items<usize>,
-    /// Whether an `@sync` waits for the task.
-    pub is_awaited: bool,
-    /// Whether the body is itself `@sync`.
-    pub is_synced: bool,
-}
 
 /// Where the maker of a task has what the task takes.
 fn slots_of(alloc: Global, chain: &Chain<'_>, names: &[Identifier]) -> Allocated<Items<usize>>

@@ -1,12 +1,13 @@
 //! Where the walk over a script stands.
 
 ghost use Rattle.std.specs.Prelude.{◌≡◌, [], IfOk, OnOk, map};
-ghost use Rattle.jt_bind.specs.Made.{made};
-ghost use Rattle.jt_bind.specs.States as spec;
+ghost use Rattle.jt_bound.specs.Made.{made};
+ghost use Rattle.jt_bound.specs.States as spec;
 ghost use Rattle.jt_bind.specs.Walks.{state};
 ghost use Rattle.jt_program.specs.View.{plan_of, body_plan};
 
-use crate::task::{Making, add_body, making_of, making_of_nothing};
+use crate::task::{add_body, making_of, making_of_nothing};
+use jt_bound::Making;
 use jt_nodes::{Allocated, Node, spawn};
 use jt_places::Chain;
 use jt_program::Body;

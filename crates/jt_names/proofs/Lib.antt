@@ -1,4 +1,1 @@
 pub mod Lookup
-pub mod TableLaws
-pub mod HolderLaws
-mod Examples

@@ -1,5 +1,3 @@
 pub mod Names
 pub mod Lookup
 pub mod Tops
-pub mod Holding
-pub mod Table

@@ -12,14 +12,14 @@ use std::alloc::{AllocError, Global};
 /// Of each name that stands in a list, how many others stand before the first that is the same. It is
 /// found in the same time however many names there are.
 #[derive(Drop)]
-pub(crate) struct Firsts {
+pub struct Firsts {
     alloc: Global,
-    pub(crate) places: IndexMap<Vec<u8>, usize>,
+    pub places: IndexMap<Vec<u8>, usize>,
 }
 
 impl Firsts {
     /// No names.
-    pub(crate) fn new(alloc: Global) -> Firsts
+    pub fn new(alloc: Global) -> Firsts
         ensures { (x : Name) → found result.places.entries x ≡ None }
     {
         Firsts {
@@ -29,7 +29,7 @@ impl Firsts {
     }
 
     /// How many names stand before the first that is this one.
-    pub(crate) fn get(&self, name: &[u8]) -> Option<usize>
+    pub fn get(&self, name: &[u8]) -> Option<usize>
         ensures { result ≡ found self.now.places.entries name.now }
     {
         self.places.get(name).copied()
@@ -40,7 +40,7 @@ impl Firsts {
     /// # Errors
     ///
     /// Where memory is wanting. The names are then as they were.
-    pub(crate) fn add(&mut self, name: &[u8], place: usize) -> Result<(), AllocError>
+    pub fn add(&mut self, name: &[u8], place: usize) -> Result<(), AllocError>
         ensures ok { OnOk result ((x : Name) → found self.new.places.entries x ≡ option_or (found self.old.places.entries x) (if same_bytes name.now x then Some place else None)) }
         ensures err { OnErr result (self.new.places.entries ≡ self.old.places.entries) }
     {

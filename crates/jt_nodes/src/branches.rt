@@ -11,7 +11,7 @@ use sqlite_items::{Boxed, Items};
 use std::alloc::Global;
 
 /// The arms of a branch whose first one has this condition and this body, with more arms behind it.
-#[tactic(auto, using(crate::proofs::Pushed::arms_joined))]
+#[tactic(auto, using(jt_lowered::proofs::Pushed::arms_joined))]
 fn arms_of(alloc: Global, condition: Node, body: Node, more: Items<Arm>) -> Allocated<Items<Arm>>
     ensures { IfOk result (λ arms. choices_of (map arm_plan arms) ≡ plan.choice (plan_of condition) (plan_of body) (choices_of (map arm_plan more))) }
 {

@@ -1,8 +1,8 @@
 //! Chains of operators of one class.
 
 ghost use Rattle.std.specs.Prelude.{◌≡◌, IfOk, OnOk};
-ghost use Rattle.jt_nodes.specs.Chains as spec;
-ghost use Rattle.jt_nodes.specs.Chains.{operands_plan};
+ghost use Rattle.jt_lowered.specs.Chains as spec;
+ghost use Rattle.jt_nodes.specs.Views.{operands_plan};
 ghost use Rattle.jt_program.specs.View.{plan_of};
 
 use crate::lists::{push, push_operand};

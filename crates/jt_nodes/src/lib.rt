@@ -7,7 +7,6 @@ mod lists;
 mod loops;
 mod lowered;
 mod nodes;
-mod target;
 mod task;
 
 pub use branches::{conditional, if_else};
@@ -19,5 +18,4 @@ pub use nodes::{
     Allocated, Node, block, break_loop, call, continue_loop, define, error, literal,
     operation_of_two, print, return_value, sync, unary,
 };
-pub use target::Target;
 pub use task::{push_body, spawn};

@@ -9,7 +9,7 @@ use jt_program::{Arm, Code, Piece};
 use sqlite_items::Items;
 use std::alloc::Global;
 
-#[tactic(auto, using(crate::proofs::Pushed::map_pushed))]
+#[tactic(auto, using(jt_lowered::proofs::Pushed::map_pushed))]
 pub fn push(codes: &mut Items<Code>, code: Node) -> Allocated<()>
     ensures { OnOk result (map plan_of codes.new ≡ map plan_of codes.old ++ plan_of code ∷ []) }
 {
@@ -17,7 +17,7 @@ pub fn push(codes: &mut Items<Code>, code: Node) -> Allocated<()>
 }
 
 /// Puts one more operand behind the others, with the operator between.
-#[tactic(auto, using(crate::proofs::Pushed::map_pushed))]
+#[tactic(auto, using(jt_lowered::proofs::Pushed::map_pushed))]
 pub(crate) fn push_operand<O: Copy>(
     operands: &mut Items<(O, Code)>,
     operator: O,
@@ -28,7 +28,7 @@ pub(crate) fn push_operand<O: Copy>(
     operands.push((operator, code.into_inner()))
 }
 
-#[tactic(auto, using(crate::proofs::Pushed::map_pushed))]
+#[tactic(auto, using(jt_lowered::proofs::Pushed::map_pushed))]
 pub fn push_arm(arms: &mut Items<Arm>, condition: Node, body: Node) -> Allocated<()>
     ensures { OnOk result (map arm_plan arms.new ≡ map arm_plan arms.old ++ (plan_of condition, plan_of body) ∷ []) }
 {
@@ -38,14 +38,14 @@ pub fn push_arm(arms: &mut Items<Arm>, condition: Node, body: Node) -> Allocated
     })
 }
 
-#[tactic(auto, using(crate::proofs::Pushed::map_pushed))]
+#[tactic(auto, using(jt_lowered::proofs::Pushed::map_pushed))]
 pub fn push_value(pieces: &mut Items<Piece>, code: Node) -> Allocated<()>
     ensures { OnOk result (map piece_plan pieces.new ≡ map piece_plan pieces.old ++ piece.value (plan_of code) ∷ []) }
 {
     pieces.push(Piece::Value(code.into_inner()))
 }
 
-#[tactic(auto, using(crate::proofs::Pushed::map_pushed))]
+#[tactic(auto, using(jt_lowered::proofs::Pushed::map_pushed))]
 pub fn push_text(alloc: Global, pieces: &mut Items<Piece>, text: &[u8]) -> Allocated<()>
     ensures { OnOk result (map piece_plan pieces.new ≡ map piece_plan pieces.old ++ piece.text text.now ∷ []) }
 {

@@ -1,7 +1,8 @@
 //! Loops.
 
 ghost use Rattle.std.specs.Prelude.{◌≡◌, IfOk};
-ghost use Rattle.jt_nodes.specs.Loops.{turn_plan, while_of, for_of};
+ghost use Rattle.jt_lowered.specs.Loops.{while_of, for_of};
+ghost use Rattle.jt_nodes.specs.Views.{turn_plan};
 ghost use Rattle.jt_program.specs.View.{plan_of};
 
 use crate::nodes::{Allocated, Node};

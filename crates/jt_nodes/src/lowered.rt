@@ -1,16 +1,16 @@
 //! What literals, operators and calls of a script are in a program.
 
 ghost use Rattle.std.specs.Prelude.{◌≡◌, IfOk};
-ghost use Rattle.jt_nodes.specs.Lowered as spec;
+ghost use Rattle.jt_lowered.specs.Lowered as spec;
 ghost use Rattle.jt_program.specs.Plan as plan;
 ghost use Rattle.jt_program.specs.View.{plan_of};
 
 use crate::nodes::{Allocated, Node, literal, operation_of_two};
-use crate::target::Target;
-use jt_forms::Function;
-use jt_names::Functions;
+use jt_functions::Function;
+use jt_lowered::Target;
 use jt_num::wrap_word;
 use jt_program::{BuiltIn, Callee, Code, Literal};
+use jt_signatures::Functions;
 use jt_syntax::{ArithmeticOperator, AssignmentOperator, BinaryOperator, ComparisonOperator};
 use sqlite_items::Boxed;
 use std::alloc::Global;

@@ -1,7 +1,7 @@
 //! Nodes that are one constructor over their parts.
 
 ghost use Rattle.std.specs.Prelude.{◌≡◌, IfOk, map};
-ghost use Rattle.jt_nodes.specs.Lowered.{operated};
+ghost use Rattle.jt_lowered.specs.Lowered.{operated};
 ghost use Rattle.jt_program.specs.Plan as plan;
 ghost use Rattle.jt_program.specs.View.{plan_of, plans, pieces_of, piece_plan};
 

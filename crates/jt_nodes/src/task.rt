@@ -1,7 +1,7 @@
 //! Tasks and their bodies.
 
 ghost use Rattle.std.specs.Prelude.{◌≡◌, ◌++◌, ◌∷◌, [], map, IfOk, OnOk};
-ghost use Rattle.jt_nodes.specs.Nodes.{body_of};
+ghost use Rattle.jt_lowered.specs.Nodes.{body_of};
 ghost use Rattle.jt_program.specs.Plan as plan;
 ghost use Rattle.jt_program.specs.View.{plan_of, body_plan};
 
@@ -11,7 +11,7 @@ use sqlite_items::{Boxed, Items};
 use std::alloc::Global;
 
 /// Puts a body behind the others.
-#[tactic(auto, using(crate::proofs::Pushed::map_pushed))]
+#[tactic(auto, using(jt_lowered::proofs::Pushed::map_pushed))]
 pub fn push_body(bodies: &mut Items<Body>, variables: usize, code: Node) -> Allocated<()>
     ensures { OnOk result (map body_plan bodies.new ≡ map body_plan bodies.old ++ body_of variables (plan_of code) ∷ []) }
 {

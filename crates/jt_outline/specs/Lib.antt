@@ -1,4 +1,3 @@
 pub mod Marks
 pub mod Outlines
 pub mod View
-pub mod Puts

@@ -3,10 +3,6 @@
 
 mod mark;
 mod outline;
-mod put;
-mod tops;
-mod walk;
 
 pub use mark::{Mark, ScopeKind, ScopeMark};
 pub use outline::{FunctionMark, Outline, Part};
-pub use tops::outline_of;

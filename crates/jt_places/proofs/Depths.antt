@@ -5,14 +5,19 @@ use Rattle.std.proofs.lemmas.Bool.{cases_lt}
 use Rattle.std.proofs.lemmas.Bool.Decides.{nat_tests}
 use Rattle.jt_syntax.specs.declared.script.Identifier.{Identifier}
 use Rattle.jt_names.specs.Names.{Name, member}
-use Rattle.jt_names.specs.Holding.{depths, first_of, first_within, innermost, innermost_within}
+use Rattle.jt_holders.specs.Holding.{depths, first_of, first_within, innermost, innermost_within}
 use Rattle.jt_scopes.specs.declared.scope.Scope.{Scope}
 use Rattle.jt_scopes.specs.Scopes.{is_function, is_task, is_inner, has}
 use Rattle.jt_places.specs.Kept.{names_in}
 use Rattle.jt_places.specs.Standings.{begin_of, function_of, task_of, holder_of}
-use Rattle.jt_places.specs.Tests.{outer}
-use Rattle.jt_scopes.proofs.Within.{lt_true, lt_false}
+use Rattle.jt_scopes.specs.Tests.{outer}
 use Rattle.jt_places.proofs.Outer.{outer_all, outer_further}
+
+pub lt_true : (m n : ℕ) → m < n → nat_lt m n ≡ true
+lt_true m n h = grind (arith, nat_tests)
+
+pub lt_false : (m n : ℕ) → n ≤ m → nat_lt m n ≡ false
+lt_false m n h = grind (arith, nat_tests)
 
 pub le_true : (m n : ℕ) → m ≤ n → nat_le m n ≡ true
 le_true m n h = grind (arith, nat_tests)

@@ -6,9 +6,9 @@ use Rattle.jt_outline.specs.declared.mark.ScopeKind.{ScopeKind}
 use Rattle.jt_outline.specs.declared.mark.ScopeKind.TheVariants as kind
 use Rattle.jt_names.specs.Names.{Name}
 use Rattle.jt_scopes.specs.declared.scope.Scope.{Scope}
-use Rattle.jt_places.specs.Awaited.{is_awaited}
-use Rattle.jt_places.specs.Slots.{first, local, captured}
-use Rattle.jt_places.specs.Tests.{outer, crosses, leaves_function, assigned_out, ambiguous, outside}
+use Rattle.jt_scopes.specs.Awaited.{is_awaited}
+use Rattle.jt_scopes.specs.Slots.{first, local, captured}
+use Rattle.jt_scopes.specs.Tests.{outer, crosses, leaves_function, assigned_out, ambiguous, outside}
 use Rattle.jt_places.specs.Variables as variable
 use Rattle.jt_places.specs.Variables.{means}
 

@@ -5,17 +5,16 @@ use Rattle.std.proofs.Math.Bool.{or-false}
 use Rattle.jt_outline.specs.declared.mark.ScopeKind.{ScopeKind}
 use Rattle.jt_outline.specs.declared.mark.ScopeKind.TheVariants as kind
 use Rattle.jt_syntax.specs.declared.script.Identifier.{Identifier}
-use Rattle.jt_names.specs.Holding.{innermost_within}
+use Rattle.jt_holders.specs.Holding.{innermost_within}
 use Rattle.jt_names.specs.Names.{Name}
 use Rattle.jt_scopes.specs.declared.scope.Scope.{Scope}
 use Rattle.jt_scopes.specs.Scopes.{loop_kind, function_kind, script_kind, task_kind, sync_kind, inner_kind, is_function, is_task, has, known, text_has}
 use Rattle.jt_places.specs.declared.standing.Standing.{Standing}
 use Rattle.jt_places.specs.Kept.{names_in, assigns_once, begins_global, crossed}
 use Rattle.jt_places.specs.Standings.{begin_of, function_of, task_of, holder_of, repeats, standing_of}
-use Rattle.jt_places.specs.Tests.{outer, leaves_function, is_global, ambiguous, once_before, crosses, assigned_out, outside}
-use Rattle.jt_scopes.proofs.Within.{lt_true, lt_false}
+use Rattle.jt_scopes.specs.Tests.{outer, leaves_function, is_global, ambiguous, once_before, crosses, assigned_out, outside}
 use Rattle.jt_places.proofs.Outer.{outer_all, outer_further, outer_none, outer_empty, outer_outer, length_outer_within, length_outer_least}
-use Rattle.jt_places.proofs.Depths.{within_told, le_true, le_false, holder_below, begin_below, function_below, task_below}
+use Rattle.jt_places.proofs.Depths.{lt_true, lt_false, within_told, le_true, le_false, holder_below, begin_below, function_below, task_below}
 
 -- ---- is_known
 

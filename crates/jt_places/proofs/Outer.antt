@@ -2,7 +2,7 @@
 use Rattle.std.proofs.Common.{◌≡◌, ℕ, suc, ◌-◌, ◌<◌, ◌≤◌, min, List, [], ◌∷◌, length, drop, ◌⊎◌, inl, inr, refl, sym, ap, ◌∙◌, arith, length-drop}
 use Rattle.std.proofs.lemmas.Bool.{cases_lt}
 use Rattle.jt_scopes.specs.declared.scope.Scope.{Scope}
-use Rattle.jt_places.specs.Tests.{outer}
+use Rattle.jt_scopes.specs.Tests.{outer}
 
 pub outer_all : (d : ℕ) (c : List Scope) → length c ≤ d → outer d c ≡ c
 outer_all d c h = let e : length c - d ≡ 0 = omega arith in ap (λ n. drop n c) e

@@ -12,11 +12,11 @@ use Rattle.jt_scopes.specs.declared.scope.Scope.{Scope}
 use Rattle.jt_scopes.specs.Scopes.{loop_kind, function_kind, script_kind, task_kind, sync_kind, inner_kind, is_script, has}
 use Rattle.jt_places.specs.declared.place.Place.{Place}
 use Rattle.jt_places.specs.declared.standing.Standing.{Standing}
-use Rattle.jt_places.specs.Awaited.{is_synced, is_awaited}
+use Rattle.jt_scopes.specs.Awaited.{is_synced, is_awaited}
 use Rattle.jt_places.specs.Kept.{scopes_in, names_in, Keeps, AreKept, IsChain, slot_in, capture_in, begins_global}
-use Rattle.jt_places.specs.Slots.{first, behind}
+use Rattle.jt_scopes.specs.Slots.{first, behind}
 use Rattle.jt_places.specs.Standings.{begin_of, function_of, task_of, repeats, standing_of, within}
-use Rattle.jt_places.specs.Tests.{outer, in_script, in_function}
+use Rattle.jt_scopes.specs.Tests.{outer, in_script, in_function}
 use Rattle.jt_places.proofs.Outer.{outer_all, outer_further, outer_none, outer_min}
 
 -- the scopes that stand round a kept one

@@ -1,19 +1,18 @@
 -- Slots by depths.
 use Rattle.std.proofs.Common.{◌≡◌, ℕ, suc, ◌<◌, ◌≤◌, nat_lt, Bool, true, false, List, [], ◌∷◌, length, Option, Some, None, if◌then◌else◌, sym, ap, ◌∙◌, cond, arith}
 use Rattle.jt_syntax.specs.declared.script.Identifier.{Identifier}
-use Rattle.jt_names.specs.Holding.{innermost}
+use Rattle.jt_holders.specs.Holding.{innermost}
 use Rattle.jt_names.specs.Names.{Name, index}
 use Rattle.jt_names.proofs.Lookup.{Indexed, indexed}
 use Rattle.jt_scopes.specs.declared.scope.Scope.{Scope}
 use Rattle.jt_scopes.specs.Scopes.{is_inner, has}
 use Rattle.jt_places.specs.declared.standing.Standing.{Standing}
 use Rattle.jt_places.specs.Kept.{names_in, slot_in, capture_in}
-use Rattle.jt_places.specs.Slots.{first, behind, local, captured}
+use Rattle.jt_scopes.specs.Slots.{first, behind, local, captured}
 use Rattle.jt_places.specs.Standings.{begin_of, holder_of, standing_of}
-use Rattle.jt_places.specs.Tests.{outer}
-use Rattle.jt_scopes.proofs.Within.{lt_true, lt_false}
+use Rattle.jt_scopes.specs.Tests.{outer}
 use Rattle.jt_places.proofs.Outer.{outer_all, outer_further, outer_none}
-use Rattle.jt_places.proofs.Depths.{holder_told, holder_below, begin_below}
+use Rattle.jt_places.proofs.Depths.{lt_true, lt_false, holder_told, holder_below, begin_below}
 
 behind_some : (n i : ℕ) (o p q : Option ℕ) → o ≡ Some i → behind n o p ≡ behind n o q
 behind_some n i o p q e = ap (λ z. behind n z p) e ∙ sym (ap (λ z. behind n z q) e)

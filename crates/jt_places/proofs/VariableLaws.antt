@@ -6,8 +6,8 @@ use Rattle.jt_names.specs.Names.{Name, index}
 use Rattle.jt_names.proofs.Lookup.{index_below}
 use Rattle.jt_scopes.specs.declared.scope.Scope.{Scope}
 use Rattle.jt_scopes.specs.Scopes.{is_inner}
-use Rattle.jt_places.specs.Slots as slots
-use Rattle.jt_places.specs.Slots.{room, first, behind}
+use Rattle.jt_scopes.specs.Slots as slots
+use Rattle.jt_scopes.specs.Slots.{room, first, behind}
 use Rattle.jt_places.specs.Variables.{Variable, local, captured, captures_at, Has, IsThere, place, further, either, local_of, captured_of, means}
 
 inner_first : (b : Bool) (k n : ℕ) → b ≡ true → (if b then k else n) ≡ k

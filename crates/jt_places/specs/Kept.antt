@@ -5,8 +5,8 @@ use Rattle.jt_names.specs.Names.{Name, member, index, place_of}
 use Rattle.jt_scopes.specs.declared.scope.Scope.{Scope}
 use Rattle.jt_scopes.specs.Scopes.{is_script, is_task, has}
 use Rattle.jt_places.specs.declared.place.Place.{Place}
-use Rattle.jt_places.specs.Tests.{before}
-use Rattle.jt_places.specs.Slots.{first, behind}
+use Rattle.jt_scopes.specs.Tests.{before}
+use Rattle.jt_scopes.specs.Slots.{first, behind}
 use Rattle.jt_places.specs.Standings.{standing_of}
 
 -- the scopes of the places, where the innermost place stands first

@@ -6,9 +6,9 @@ use Rattle.jt_outline.specs.declared.mark.ScopeKind.TheVariants as kind
 use Rattle.jt_scopes.specs.declared.scope.Scope.{Scope}
 use Rattle.jt_scopes.specs.Scopes.{is_loop, is_function, is_task, is_sync, is_inner, has}
 use Rattle.jt_places.specs.declared.standing.Standing.{Standing}
-use Rattle.jt_places.specs.Tests.{in_script, in_loop, in_function}
-use Rattle.jt_places.specs.Slots.{room}
-use Rattle.jt_places.specs.Awaited.{is_synced, is_awaited}
+use Rattle.jt_scopes.specs.Tests.{in_script, in_loop, in_function}
+use Rattle.jt_scopes.specs.Slots.{room}
+use Rattle.jt_scopes.specs.Awaited.{is_synced, is_awaited}
 
 -- the depth of the scope of the innermost function or task's body or of the script, 0 where there is none
 abbrev pub begin_of : List Scope → ℕ

@@ -6,7 +6,7 @@ use Rattle.jt_syntax.specs.declared.script.Identifier.{Identifier}
 use Rattle.jt_names.specs.Names.{Name, index}
 use Rattle.jt_scopes.specs.declared.scope.Scope.{Scope}
 use Rattle.jt_scopes.specs.Scopes.{is_inner}
-use Rattle.jt_places.specs.Slots.{first}
+use Rattle.jt_scopes.specs.Slots.{first}
 
 pub data Variable : Type 0 where
   local : (between i : ℕ) → Variable

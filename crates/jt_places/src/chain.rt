@@ -1,14 +1,14 @@
 //! The scopes round a place.
 
 ghost use Rattle.std.specs.Prelude.{◌≡◌, [], ◌∷◌, drop, length, option_map, IfOk, MatchOption, OnOk, OnErr};
-ghost use Rattle.jt_places.specs.Awaited as awaited;
-ghost use Rattle.jt_places.specs.Slots as slots;
+ghost use Rattle.jt_scopes.specs.Awaited as awaited;
+ghost use Rattle.jt_scopes.specs.Slots as slots;
 ghost use Rattle.jt_places.specs.Standings.{standing_of};
-ghost use Rattle.jt_places.specs.Tests as spec;
+ghost use Rattle.jt_scopes.specs.Tests as spec;
 
 use crate::place::Place;
 use crate::standing::Standing;
-use jt_names::Holders;
+use jt_holders::Holders;
 use jt_scopes::Scope;
 use sqlite_items::Items;
 use std::alloc::{AllocError, Global};

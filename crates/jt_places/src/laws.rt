@@ -4,7 +4,7 @@
 ghost use Rattle.std.specs.Prelude.{◌≡◌, ◌<◌, List, option_map};
 ghost use Rattle.jt_names.specs.Names.{Name};
 ghost use Rattle.jt_scopes.specs.declared.scope.Scope.{Scope};
-ghost use Rattle.jt_places.specs.Slots as slots;
+ghost use Rattle.jt_scopes.specs.Slots as slots;
 ghost use Rattle.jt_places.specs.Variables.{Variable, Has, IsThere, place, either, local_of, captured_of, means};
 
 /// Each variable at a place has a slot below the room, and two variables have two slots, also where one

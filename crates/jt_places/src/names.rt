@@ -4,7 +4,7 @@
 ghost use Rattle.std.specs.Prelude.{◌≡◌, nat_lt, nat_le, ◌&&◌};
 ghost use Rattle.jt_scopes.specs.Scopes.{known};
 ghost use Rattle.jt_places.specs.Kept.{assigns_once, begins_global, crossed};
-ghost use Rattle.jt_places.specs.Tests as spec;
+ghost use Rattle.jt_scopes.specs.Tests as spec;
 
 use crate::chain::Chain;
 use jt_scopes::Scope;

@@ -2,7 +2,7 @@
 
 ghost use Rattle.std.specs.Prelude.{◌≡◌, ◌+◌, length, Option, None};
 ghost use Rattle.jt_names.specs.Names.{index};
-ghost use Rattle.jt_places.specs.Slots.{behind};
+ghost use Rattle.jt_scopes.specs.Slots.{behind};
 
 use crate::standing::Standing;
 use jt_scopes::Scope;

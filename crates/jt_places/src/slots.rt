@@ -3,8 +3,8 @@
 
 ghost use Rattle.std.specs.Prelude.{◌≡◌};
 ghost use Rattle.jt_places.specs.Kept.{capture_in, slot_in};
-ghost use Rattle.jt_places.specs.Slots as spec;
-ghost use Rattle.jt_places.specs.Tests.{outer};
+ghost use Rattle.jt_scopes.specs.Slots as spec;
+ghost use Rattle.jt_scopes.specs.Tests.{outer};
 
 use crate::chain::Chain;
 

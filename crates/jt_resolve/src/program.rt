@@ -1,40 +1,28 @@
 //! Whole scripts to programs.
 
 ghost use Rattle.std.specs.Prelude.{◌≡◌, IfOk, IfErr};
-ghost use Rattle.jt_bind.specs.Programs.{program_of};
+ghost use Rattle.jt_bound.specs.Programs.{program_of};
 ghost use Rattle.jt_outline.specs.Outlines as outlines;
 ghost use Rattle.jt_outline.specs.View.{outline_view};
 ghost use Rattle.jt_program.specs.View.{program_plan};
-ghost use Rattle.jt_resolve.specs.Refusals.{Refuses, refusal_of};
-ghost use Rattle.jt_rules.specs.Scripts.{BreaksNone};
+ghost use Rattle.jt_naming.specs.Refusals.{RefusesNames};
+ghost use Rattle.jt_naming.specs.Scripts.{BreaksNone};
 ghost use Rattle.jt_scopes.specs.Scopes.{scopes_of};
 ghost use Rattle.jt_syntax.specs.View as trees;
 
-use crate::error::NameError;
 use jt_bind::bind;
-use jt_outline::{Outline, outline_of};
+use jt_naming::{NameError, refusal};
+use jt_outline::Outline;
+use jt_outlining::outline_of;
 use jt_program::Program;
-use jt_rules::{Broken, Rule, check};
-use jt_scopes::{Scope, settle};
+use jt_rules::check;
+use jt_scopes::Scope;
+use jt_settling::settle;
 use jt_syntax::Script;
 use std::alloc::Global;
 
-fn refusal(broken: Broken) -> NameError
-    ensures { result ≡ refusal_of broken }
-{
-    match broken.rule {
-        Rule::UnknownName => NameError::UnknownName(broken.at),
-        Rule::CapturedAssigned => NameError::CapturedAssigned(broken.at),
-        Rule::AmbiguousGlobal => NameError::AmbiguousGlobal(broken.at),
-        Rule::TwiceDefined => NameError::TwiceDefined(broken.at),
-        Rule::WrongCount => NameError::WrongCount(broken.at),
-        Rule::NoConstant => NameError::NoConstant(broken.at),
-        Rule::BadJump => NameError::BadJump(broken.at),
-    }
-}
-
 /// The program of a script with these scopes.
-#[tactic(auto, using(crate::proofs::Refusals::refused))]
+#[tactic(auto, using(jt_naming::proofs::Refusals::refused))]
 fn resolve_in(
     alloc: Global,
     script: &Script,
@@ -44,7 +32,7 @@ fn resolve_in(
     requires outline { outline_view outline.now ≡ outlines.outline_of (trees.script_view script.now) }
     requires scopes { scopes.now ≡ scopes_of (outline_view outline.now) }
     ensures found { IfOk result (λ p. BreaksNone (trees.script_view script.now) × (program_plan p ≡ program_of (trees.script_view script.now))) }
-    ensures refused { IfErr result (Refuses (trees.script_view script.now)) }
+    ensures refused { IfErr result (RefusesNames (trees.script_view script.now)) }
 {
     let checked = check(alloc, script, outline, scopes)?;
     match checked.broken {
@@ -66,11 +54,11 @@ fn resolve_in(
 ///
 /// Otherwise the error says which rule of names is broken, and where: the one at the smallest place.
 /// `OutOfMemory` comes where memory runs out.
-pub fn resolve(alloc: Global, script: Script) -> Result<Program, NameError>
-    ensures found { IfOk result (λ p. BreaksNone (trees.script_view script) × (program_plan p ≡ program_of (trees.script_view script))) }
-    ensures refused { IfErr result (Refuses (trees.script_view script)) }
+pub fn resolve(alloc: Global, script: &Script) -> Result<Program, NameError>
+    ensures found { IfOk result (λ p. BreaksNone (trees.script_view script.now) × (program_plan p ≡ program_of (trees.script_view script.now))) }
+    ensures refused { IfErr result (RefusesNames (trees.script_view script.now)) }
 {
-    let outline = outline_of(alloc, &script)?;
+    let outline = outline_of(alloc, script)?;
     let scopes = settle(alloc, &outline)?;
-    resolve_in(alloc, &script, &outline, scopes.as_slice())
+    resolve_in(alloc, script, &outline, scopes.as_slice())
 }

@@ -11,9 +11,9 @@ use Rattle.jt_names.specs.declared.functions.Signature.{Signature}
 use Rattle.jt_scopes.specs.declared.scope.Scope.{Scope}
 use Rattle.jt_scopes.specs.Scopes.{loop_kind, scope_of, script_scope, function_scope, begun, begun_functions, begun_parts, scopes_within, scopes_of}
 use Rattle.jt_rules.specs.declared.found.Found.{Found}
-use Rattle.jt_rules.specs.declared.rules.Broken.{Broken}
-use Rattle.jt_rules.specs.Rules.{Context, mark_breaks, breaks, is_call, calls, function_breaks, constant_breaks}
-use Rattle.jt_rules.specs.Scripts.{context_of, parameters_break, functions_break, parts_break, broken_rules}
+use Rattle.jt_naming.specs.declared.rules.Broken.{Broken}
+use Rattle.jt_naming.specs.Rules.{Context, mark_breaks, breaks, is_call, calls, function_breaks, constant_breaks}
+use Rattle.jt_naming.specs.Scripts.{context_of, parameters_break, functions_break, parts_break, broken_rules}
 use Rattle.jt_rules.specs.Walk.{worse, judged, opened, cleared, headed, nothing_found, Stand, left, checked, checked_all, checked_functions, with_constant, checked_parts, checked_script, Answers}
 use Rattle.jt_rules.proofs.Least.{worse_append, worst_answers}
 

@@ -2,10 +2,10 @@
 use Rattle.std.proofs.Common.{◌≡◌, Bool, true, false, List, [], ◌∷◌, ◌++◌, Option, Some, None, refl, sym, fold, if◌then◌else◌, subst, ◌⊎◌, inl, inr}
 use Rattle.std.proofs.lemmas.List.Sums.{fold-append}
 use Rattle.jt_syntax.specs.Tree.{TopTree}
-use Rattle.jt_rules.specs.Rules.{below}
-use Rattle.jt_rules.specs.Scripts.{broken_rules, Among, NoneBelow, IsLeast}
+use Rattle.jt_naming.specs.Rules.{below}
+use Rattle.jt_naming.specs.Scripts.{broken_rules, Among, NoneBelow, IsLeast}
 use Rattle.jt_rules.specs.Walk.{worse, Answers}
-use Rattle.jt_rules.specs.declared.rules.Broken.{Broken}
+use Rattle.jt_naming.specs.declared.rules.Broken.{Broken}
 use Rattle.jt_rules.proofs.Order.{below_self, below_through, below_other}
 
 pub worse_append : (o : Option Broken) (bs cs : List Broken) → fold worse o (bs ++ cs) ≡ fold worse (fold worse o bs) cs

@@ -1,6 +1,5 @@
 pub mod After
 pub mod Captured
-pub mod Examples
 pub mod Least
 pub mod Meant
 pub mod Order

@@ -11,12 +11,12 @@ use Rattle.jt_outline.specs.Outlines.{outline_of}
 use Rattle.jt_scopes.specs.Bodies.{direct, used, used_name, passed_on, taken}
 use Rattle.jt_scopes.specs.Scopes.{function_kind, script_kind, task_kind, inner_kind, is_script, had, known, text_has, captures_of, scope_of, function_scope, script_scope}
 use Rattle.jt_scopes.specs.declared.scope.Scope.{Scope}
-use Rattle.jt_places.specs.Tests.{crosses, leaves_function, outside}
+use Rattle.jt_scopes.specs.Tests.{crosses, leaves_function, outside}
 use Rattle.jt_rules.specs.Meant.{UseIsMeant, InterpolationIsMeant, CapturesAreThere, AreMeant, FunctionsAreMeant, PartsAreMeant, NamesAreMeant}
-use Rattle.jt_rules.specs.Rules.{Context, when, breaks, mark_breaks, use_breaks, interpolation_breaks, calls, constant_breaks, function_breaks}
-use Rattle.jt_rules.specs.Scripts.{context_of, broken_rules, BreaksNone, parameters_break, functions_break, parts_break}
-use Rattle.jt_rules.specs.declared.rules.Broken.{Broken}
-use Rattle.jt_rules.specs.declared.rules.Rule.TheVariants as rule
+use Rattle.jt_naming.specs.Rules.{Context, when, breaks, mark_breaks, use_breaks, interpolation_breaks, calls, constant_breaks, function_breaks}
+use Rattle.jt_naming.specs.Scripts.{context_of, broken_rules, BreaksNone, parameters_break, functions_break, parts_break}
+use Rattle.jt_naming.specs.declared.rules.Broken.{Broken}
+use Rattle.jt_naming.specs.declared.rules.Rule.TheVariants as rule
 use Rattle.jt_rules.proofs.Captured.{Took, TookIn, Hides, AllTook, grows, none_hides, loop_hides, sync_hides, task_hides, name_took, given_took, captures_outer, captures_took, body_took}
 use Rattle.jt_rules.proofs.Slotted.{took, binds, captured_some, slot_binds}
 

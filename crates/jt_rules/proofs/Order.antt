@@ -1,8 +1,8 @@
 -- Broken rules are in one order.
 use Rattle.std.proofs.Common.{◌≡◌, true, false, arith}
 use Rattle.std.proofs.lemmas.Bool.Decides.{nat_tests}
-use Rattle.jt_rules.specs.Rules.{below}
-use Rattle.jt_rules.specs.declared.rules.Broken.{Broken}
+use Rattle.jt_naming.specs.Rules.{below}
+use Rattle.jt_naming.specs.declared.rules.Broken.{Broken}
 
 pub below_self : (a : Broken) → below a a ≡ false
 below_self a = grind (arith, nat_tests)

@@ -8,7 +8,7 @@ use Rattle.jt_syntax.specs.declared.script.Identifier.{Identifier}
 use Rattle.jt_names.specs.Names.{Name, is_named, member, index}
 use Rattle.jt_scopes.specs.declared.scope.Scope.{Scope}
 use Rattle.jt_scopes.specs.Scopes.{is_inner, has, had}
-use Rattle.jt_places.specs.Slots.{behind, first, local, captured}
+use Rattle.jt_scopes.specs.Slots.{behind, first, local, captured}
 use Rattle.jt_rules.specs.Meant.{has_slot}
 
 any_below : (p : Identifier → Bool) (is : List Identifier) → nat_lt (position_or_len p is) (length is) ≡ list_any p is

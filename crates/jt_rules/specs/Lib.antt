@@ -1,4 +1,2 @@
-pub mod Rules
-pub mod Scripts
 pub mod Walk
 pub mod Meant

@@ -8,9 +8,9 @@ use Rattle.jt_outline.specs.Marks.{MarkTree, Marks, no_marks, mark, use_of, inte
 use Rattle.jt_outline.specs.Outlines.{outline_of}
 use Rattle.jt_scopes.specs.declared.scope.Scope.{Scope}
 use Rattle.jt_scopes.specs.Scopes.{captures_of, scope_of, script_scope, function_scope}
-use Rattle.jt_places.specs.Slots.{local, captured}
-use Rattle.jt_rules.specs.Rules.{Context}
-use Rattle.jt_rules.specs.Scripts.{context_of}
+use Rattle.jt_scopes.specs.Slots.{local, captured}
+use Rattle.jt_naming.specs.Rules.{Context}
+use Rattle.jt_naming.specs.Scripts.{context_of}
 
 -- some slot stands for the name there: of a variable, or of what the function or task's body captured
 abbrev pub has_slot : List Scope → Name → Bool

@@ -7,11 +7,11 @@ use Rattle.jt_outline.specs.Marks.{MarkTree, Marks, no_marks, mark, scope, Funct
 use Rattle.jt_scopes.specs.declared.scope.Scope.{Scope}
 use Rattle.jt_scopes.specs.Scopes.{loop_kind}
 use Rattle.jt_rules.specs.declared.found.Found.{Found}
-use Rattle.jt_rules.specs.declared.rules.Broken.{Broken}
-use Rattle.jt_rules.specs.declared.rules.Rule.{Rule}
+use Rattle.jt_naming.specs.declared.rules.Broken.{Broken}
+use Rattle.jt_naming.specs.declared.rules.Rule.{Rule}
 use Rattle.jt_rules.specs.declared.walk.Walk.{Walk}
-use Rattle.jt_rules.specs.Rules.{Context, broken, below, mark_breaks, is_call, constant_breaks, function_breaks}
-use Rattle.jt_rules.specs.Scripts.{parameters_break, BreaksNone, Breaks}
+use Rattle.jt_naming.specs.Rules.{Context, broken, below, mark_breaks, is_call, constant_breaks, function_breaks}
+use Rattle.jt_naming.specs.Scripts.{parameters_break, BreaksNone, Breaks}
 
 -- ---- what was found
 

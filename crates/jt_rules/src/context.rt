@@ -2,10 +2,11 @@
 
 ghost use Rattle.std.specs.Prelude.{◌≡◌, ◌||◌};
 ghost use Rattle.jt_names.specs.Names.{is_nothing, place_of};
-ghost use Rattle.jt_places.specs.Tests.{before};
+ghost use Rattle.jt_scopes.specs.Tests.{before};
 
-use jt_names::{Functions, Names, is_nothing};
+use jt_names::{Names, is_nothing};
 use jt_places::is_before;
+use jt_signatures::Functions;
 use jt_syntax::Identifier;
 use std::marker::Model;
 
@@ -19,7 +20,7 @@ pub(crate) struct Context<'a> {
 }
 
 impl<'a> Model for Context<'a> {
-    ghost use Rattle.jt_rules.specs.Rules as rules;
+    ghost use Rattle.jt_naming.specs.Rules as rules;
 
     ghost Value = { rules.Context };
 

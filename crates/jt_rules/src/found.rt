@@ -1,18 +1,18 @@
 //! What a walk over a script found so far, and how each thing that stands there adds to it.
 
 ghost use Rattle.std.specs.Prelude.{◌≡◌, [], false, true, not, IfOk};
-ghost use Rattle.jt_forms.specs.Functions.{arity_of};
+ghost use Rattle.jt_functions.specs.Functions.{arity_of};
 ghost use Rattle.jt_names.specs.Names.{member, is_nothing};
 ghost use Rattle.jt_names.specs.Tops.{signature_of};
-ghost use Rattle.jt_places.specs.Tests.{outer, outside};
-ghost use Rattle.jt_rules.specs.Rules as rules;
-ghost use Rattle.jt_rules.specs.Scripts.{parameters_break};
+ghost use Rattle.jt_scopes.specs.Tests.{outer, outside};
+ghost use Rattle.jt_naming.specs.Rules as rules;
+ghost use Rattle.jt_naming.specs.Scripts.{parameters_break};
 ghost use Rattle.jt_rules.specs.Walk as spec;
 
 use crate::context::{Context, is_constant_before, is_defined_before};
-use crate::rules::{Broken, Rule, is_wrong};
-use jt_forms::{arity_of, is_language_function};
+use jt_functions::{arity_of, is_language_function};
 use jt_names::{Names, is_nothing};
+use jt_naming::{Broken, Rule, is_wrong};
 use jt_outline::ScopeKind;
 use jt_places::{Chain, is_before};
 use jt_syntax::Identifier;

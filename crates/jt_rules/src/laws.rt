@@ -2,7 +2,7 @@
 
 ghost use Rattle.std.specs.Prelude.{List};
 ghost use Rattle.jt_rules.specs.Meant.{NamesAreMeant};
-ghost use Rattle.jt_rules.specs.Scripts.{BreaksNone};
+ghost use Rattle.jt_naming.specs.Scripts.{BreaksNone};
 ghost use Rattle.jt_syntax.specs.Tree.{TopTree};
 
 /// In a script that breaks no rule each name that is used is one of a variable with a slot, of a

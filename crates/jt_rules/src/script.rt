@@ -10,12 +10,13 @@ ghost use Rattle.jt_syntax.specs.View.{script_view};
 
 use crate::context::Context;
 use crate::found::Found;
-use crate::rules::Broken;
 use crate::walk::Walk;
-use jt_names::{Functions, Names, constants_of, signatures_of};
+use jt_names::Names;
+use jt_naming::Broken;
 use jt_outline::Outline;
 use jt_places::Chain;
 use jt_scopes::Scope;
+use jt_signatures::{Functions, constants_of, signatures_of};
 use jt_syntax::Script;
 use std::alloc::{AllocError, Global};
 

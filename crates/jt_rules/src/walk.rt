@@ -7,7 +7,7 @@ ghost use Rattle.jt_rules.specs.Walk.{stand};
 
 use crate::context::Context;
 use crate::found::Found;
-use crate::rules::Broken;
+use jt_naming::Broken;
 use jt_outline::{FunctionMark, Mark, Outline, Part};
 use jt_places::Chain;
 use jt_scopes::Scope;

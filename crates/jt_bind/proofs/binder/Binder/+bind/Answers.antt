@@ -1,27 +1,31 @@
--- The step and the end of each loop, and what has items.
+-- The step and the end of each loop, what has items, and what the forms of an expression make.
 use Rattle.std.proofs.Common.{◌≡◌, ◌∷◌, IfOk, ap, refl, sym, subst, ◌∙◌, map}
 use Rattle.std.specs.Prelude.{option_copied}
 use Rattle.jt_syntax.specs.Tree.{Terms}
 use Rattle.jt_syntax.specs.Tree as tree
 use Rattle.jt_syntax.specs.View.{view, views, item_view, item_views, term_view, terms_of, arm_view, arms_of, jump_view, stmt_view, stmt_views}
-use Rattle.jt_syntax.proofs.Views.{view-Chain, view-Guard}
+use Rattle.jt_syntax.proofs.Views.{view-Number, view-Call, view-Println, view-Chain, view-Block, view-While, view-ForRange, view-Guard}
+use Rattle.jt_syntax.specs.declared.operator.ArithmeticOperator.TheVariants as arithmetic
+use Rattle.jt_program.specs.declared.code.Literal.TheVariants as literal
 use Rattle.jt_program.specs.Plan.{Plan}
 use Rattle.jt_program.specs.Plan as plan
 use Rattle.jt_program.specs.View as code
 use Rattle.jt_program.specs.View.{plan_of, plans, choices_of, piece_before, pieces_of, piece_plan, arm_plan}
-use Rattle.jt_bind.specs.Behind.{with_last, choice_before}
-use Rattle.jt_bind.specs.Bound.{piece_of}
-use Rattle.jt_nodes.specs.Loops.{while_of, turn_plan}
-use Rattle.jt_nodes.specs.Chains.{operands_plan, none_of, all_more, chain_of, chained, guard_of, guarded}
-use Rattle.jt_nodes.specs.Lowered.{callee_of}
-use Rattle.jt_bind.specs.Made.{Made, made, with, both, three}
-use Rattle.jt_bind.specs.States.{State, entered, turned}
-use Rattle.jt_bind.specs.Walked.{walked, walked_all, walked_pieces, walked_terms, walked_arms, walked_leap, walked_step, walked_steps}
+use Rattle.jt_bound.specs.Behind.{with_last, choice_before}
+use Rattle.jt_bound.specs.Bound.{piece_of}
+use Rattle.jt_nodes.specs.Views.{operands_plan, turn_plan}
+use Rattle.jt_lowered.specs.Loops.{while_of, for_of}
+use Rattle.jt_lowered.specs.Chains.{none_of, all_more, chain_of, chained, guard_of, guarded}
+use Rattle.jt_lowered.specs.Lowered.{number_literal, least_literal, greatest_literal, operated, callee_of}
+use Rattle.jt_bound.specs.Made.{Made, made, with, both, three}
+use Rattle.jt_bound.specs.States.{State, entered, turned}
+use Rattle.jt_bound.specs.Walked.{walked, walked_all, walked_pieces, walked_terms, walked_arms, walked_leap, walked_step, walked_steps}
 use Rattle.jt_bind.specs.Walks.{numbers, state}
-use Rattle.jt_bind.proofs.Arms.{arm_made, branch_of, branch_made}
-use Rattle.jt_bind.proofs.Behind.{taken, grown, none_left, ended, plans_behind, choices_behind, pieces_behind}
-use Rattle.jt_bind.proofs.Outcomes.{code_made, list_made}
-use Rattle.jt_bind.proofs.Texts.{value_piece, value_view}
+use Rattle.jt_bound.proofs.Arms.{arm_made, branch_of, branch_made}
+use Rattle.jt_bound.proofs.Behind.{taken, grown, none_left, ended, plans_behind, choices_behind, pieces_behind}
+use Rattle.jt_bound.proofs.Outcomes.{code_made, list_made}
+use Rattle.jt_bound.proofs.Texts.{value_piece, value_view}
+use Rattle.jt_bind.proofs.Forms.{seen, leaf, view-Truth, view-Name, view-Interpolation, view-Group, view-Error, view-Least, view-Greatest, view-Power, view-Conditional}
 use Rattle.jt_bind.proofs.binder.Binder.+bind.Goals as goal
 
 pub block-loop-statement-preserved : goal.block-loop-statement-preserved
@@ -159,3 +163,110 @@ statement-returns-in-Guard t c =
     ∙ (ap (λ e. tree.guard c.in-Guard.connective (view e) (terms_of (map term_view c.in-Guard.terms)) (jump_view c.in-Guard.jump)) (sym c.get-in-Guard.ensures)
     ∙ ap (λ es. tree.guard c.in-Guard.connective (view c.get-in-Guard.result.now) (terms_of (map term_view es)) (jump_view c.in-Guard.jump)) (sym c.as_slice-in-Guard.ensures))) in
     subst (λ e. IfOk c.guard.result (λ p. walked_step (numbers c.args.self.now) (state c.args.walk.now) e ≡ made (plan_of p) (state c.guard.new.walk))) (sym seen) c.guard.ensures
+
+pub expression-returns-in-Number : goal.expression-returns-in-Number
+expression-returns-in-Number t c =
+    leaf c.number.result (numbers c.args.self.now) (state c.args.walk.now) (view c.args.expression.now) (tree.number c.in-Number.n) (number_literal c.in-Number.n) (ap view c.in-Number.is ∙ view-Number c.in-Number.n) refl c.number.ensures
+
+pub expression-returns-in-Truth : goal.expression-returns-in-Truth
+expression-returns-in-Truth t c =
+    leaf c.literal.result (numbers c.args.self.now) (state c.args.walk.now) (view c.args.expression.now) (tree.truth c.in-Truth.flag) (plan.literal (literal.Flag c.in-Truth.flag)) (ap view c.in-Truth.is ∙ view-Truth c.in-Truth.flag) refl c.literal.ensures
+
+pub expression-returns-in-Name : goal.expression-returns-in-Name
+expression-returns-in-Name t c =
+    seen c.name.result (numbers c.args.self.now) (state c.args.walk.now) (state c.args.walk.now) (view c.args.expression.now) (tree.name c.in-Name.name) (ap view c.in-Name.is ∙ view-Name c.in-Name.name) c.name.ensures
+
+pub expression-returns-in-Interpolation : goal.expression-returns-in-Interpolation
+expression-returns-in-Interpolation t c =
+    seen c.interpolation.result (numbers c.args.self.now) (state c.args.walk.now) (state c.args.walk.now) (view c.args.expression.now) (tree.interpolation c.in-Interpolation.field-0 c.in-Interpolation.name) (ap view c.in-Interpolation.is ∙ view-Interpolation c.in-Interpolation.field-0 c.in-Interpolation.name) c.interpolation.ensures
+
+pub expression-returns-in-Group : goal.expression-returns-in-Group
+expression-returns-in-Group t c =
+    seen c.expression.result (numbers c.args.self.now) (state c.args.walk.now) (state c.expression.new.walk) (view c.args.expression.now) (tree.group (view c.get.result.now))
+    (ap view c.in-Group.is ∙ (view-Group c.in-Group.inner ∙ ap (λ e. tree.group (view e)) (sym c.get.ensures)))
+    c.expression.ensures
+
+pub expression-returns-in-Call : goal.expression-returns-in-Call
+expression-returns-in-Call t c =
+    seen c.call.result (numbers c.args.self.now) (state c.args.walk.now) (state c.call.new.walk) (view c.args.expression.now) (tree.call c.in-Call.function (views c.as_slice.result.now))
+    (ap view c.in-Call.is ∙ (view-Call c.in-Call.function c.in-Call.arguments ∙ ap (λ es. tree.call c.in-Call.function (views es)) (sym c.as_slice.ensures)))
+    c.call.ensures
+
+pub expression-returns-in-Println : goal.expression-returns-in-Println
+expression-returns-in-Println t c =
+    seen c.print.result (numbers c.args.self.now) (state c.args.walk.now) (state c.print.new.walk) (view c.args.expression.now) (tree.println (item_views c.as_slice-in-Println.result.now))
+    (ap view c.in-Println.is ∙ (view-Println c.in-Println.items ∙ ap (λ es. tree.println (item_views es)) (sym c.as_slice-in-Println.ensures)))
+    c.print.ensures
+
+pub expression-returns-in-Error : goal.expression-returns-in-Error
+expression-returns-in-Error t c =
+    leaf c.error.result (numbers c.args.self.now) (state c.args.walk.now) (view c.args.expression.now) (tree.error c.as_slice-in-Error.result.now) (plan.error c.as_slice-in-Error.result.now) (ap view c.in-Error.is ∙ (view-Error c.in-Error.text ∙ ap tree.error (sym c.as_slice-in-Error.ensures))) refl c.error.ensures
+
+pub expression-returns-in-Least : goal.expression-returns-in-Least
+expression-returns-in-Least t c =
+    leaf c.literal-in-Least.result (numbers c.args.self.now) (state c.args.walk.now) (view c.args.expression.now) tree.least least_literal (ap view c.in-Least.is ∙ view-Least) refl c.literal-in-Least.ensures
+
+pub expression-returns-in-Greatest : goal.expression-returns-in-Greatest
+expression-returns-in-Greatest t c =
+    leaf c.literal-in-Greatest.result (numbers c.args.self.now) (state c.args.walk.now) (view c.args.expression.now) tree.greatest greatest_literal (ap view c.in-Greatest.is ∙ view-Greatest) refl c.literal-in-Greatest.ensures
+
+pub expression-returns-in-Power : goal.expression-returns-in-Power
+expression-returns-in-Power t c =
+    seen c.power.result (numbers c.args.self.now) (state c.args.walk.now) (state c.power.new.walk) (view c.args.expression.now) (tree.power (view c.get-in-Power.result.now) (view c.get-in-Power-2.result.now))
+    (ap view c.in-Power.is ∙ (view-Power c.in-Power.base c.in-Power.exponent
+    ∙ (ap (λ e. tree.power (view e) (view c.in-Power.exponent)) (sym c.get-in-Power.ensures) ∙ ap (λ e. tree.power (view c.get-in-Power.result.now) (view e)) (sym c.get-in-Power-2.ensures))))
+    c.power.ensures
+
+pub expression-returns-in-Conditional : goal.expression-returns-in-Conditional
+expression-returns-in-Conditional t c =
+    seen c.conditional.result (numbers c.args.self.now) (state c.args.walk.now) (state c.conditional.new.walk) (view c.args.expression.now) (tree.conditional (view c.get-in-Conditional.result.now) (view c.get-in-Conditional-2.result.now) (view c.get-in-Conditional-3.result.now))
+    (ap view c.in-Conditional.is ∙ (view-Conditional c.in-Conditional.test c.in-Conditional.value c.in-Conditional.otherwise
+    ∙ (ap (λ e. tree.conditional (view e) (view c.in-Conditional.value) (view c.in-Conditional.otherwise)) (sym c.get-in-Conditional.ensures)
+    ∙ (ap (λ e. tree.conditional (view c.get-in-Conditional.result.now) (view e) (view c.in-Conditional.otherwise)) (sym c.get-in-Conditional-2.ensures)
+    ∙ ap (λ e. tree.conditional (view c.get-in-Conditional.result.now) (view c.get-in-Conditional-2.result.now) (view e)) (sym c.get-in-Conditional-3.ensures)))))
+    c.conditional.ensures
+
+pub expression-returns-in-Block : goal.expression-returns-in-Block
+expression-returns-in-Block t c =
+    seen c.block.result (numbers c.args.self.now) (state c.args.walk.now) (state c.block.new.walk) (view c.args.expression.now) (tree.block (stmt_views c.as_slice-in-Block.result.now))
+    (ap view c.in-Block.is ∙ (view-Block c.in-Block.body ∙ ap (λ ss. tree.block (stmt_views ss)) (sym c.as_slice-in-Block.ensures)))
+    c.block.ensures
+
+pub expression-returns-in-While : goal.expression-returns-in-While
+expression-returns-in-While t c =
+    seen c.while_loop.result (numbers c.args.self.now) (state c.args.walk.now) (state c.while_loop.new.walk) (view c.args.expression.now) (tree.while (view c.get-in-While.result.now) (stmt_views c.as_slice-in-While.result.now))
+    (ap view c.in-While.is ∙ (view-While c.in-While.test c.in-While.body
+    ∙ (ap (λ e. tree.while (view e) (stmt_views c.in-While.body)) (sym c.get-in-While.ensures) ∙ ap (λ ss. tree.while (view c.get-in-While.result.now) (stmt_views ss)) (sym c.as_slice-in-While.ensures))))
+    c.while_loop.ensures
+
+pub expression-returns-in-ForRange : goal.expression-returns-in-ForRange
+expression-returns-in-ForRange t c =
+    seen c.for_loop.result (numbers c.args.self.now) (state c.args.walk.now) (state c.for_loop.new.walk) (view c.args.expression.now) (tree.for_range c.in-ForRange.field-0 (view c.get-in-ForRange.result.now) (view c.get-in-ForRange-2.result.now) (stmt_views c.as_slice-in-ForRange.result.now))
+    (ap view c.in-ForRange.is ∙ (view-ForRange c.in-ForRange.field-0 c.in-ForRange.low c.in-ForRange.high c.in-ForRange.body
+    ∙ (ap (λ e. tree.for_range c.in-ForRange.field-0 (view e) (view c.in-ForRange.high) (stmt_views c.in-ForRange.body)) (sym c.get-in-ForRange.ensures)
+    ∙ (ap (λ e. tree.for_range c.in-ForRange.field-0 (view c.get-in-ForRange.result.now) (view e) (stmt_views c.in-ForRange.body)) (sym c.get-in-ForRange-2.ensures)
+    ∙ ap (λ ss. tree.for_range c.in-ForRange.field-0 (view c.get-in-ForRange.result.now) (view c.get-in-ForRange-2.result.now) (stmt_views ss)) (sym c.as_slice-in-ForRange.ensures)))))
+    c.for_loop.ensures
+
+pub conditional-returns : goal.conditional-returns
+conditional-returns t c =
+    code_made c.conditional.result _ (plan.branch (plan.choice (plan_of c.in_ok-test.test) (plan_of c.in_ok-value.value) plan.no_choices) (plan_of c.in_ok-otherwise.otherwise)) (state c.expression-3.new.walk)
+    (ap (λ m. three (λ t a b. plan.branch (plan.choice t a plan.no_choices) b) m (λ s. walked (numbers c.args.self.now) s (view c.args.value.now)) (λ s. walked (numbers c.args.self.now) s (view c.args.otherwise.now))) c.in_ok-test.ensures
+    ∙ (ap (λ m. both (λ a b. plan.branch (plan.choice (plan_of c.in_ok-test.test) a plan.no_choices) b) m (λ s. walked (numbers c.args.self.now) s (view c.args.otherwise.now))) c.in_ok-value.ensures
+    ∙ ap (with (λ b. plan.branch (plan.choice (plan_of c.in_ok-test.test) (plan_of c.in_ok-value.value) plan.no_choices) b)) c.in_ok-otherwise.ensures))
+    c.conditional.ensures
+
+pub for_loop-returns : goal.for_loop-returns
+for_loop-returns t c =
+    code_made c.for_loop.result _ (for_of (plan_of c.in_ok-low.low) (plan_of c.in_ok-high.high) (turn_plan c.in_ok-turn.turn)) (state c.turn.new.walk)
+    (ap (λ m. three for_of m (λ s. walked (numbers c.args.self.now) s (view c.args.high.now)) (λ s. turned s (with plan.block (walked_steps (numbers c.args.self.now) (entered s) (stmt_views c.args.body.now))))) c.in_ok-low.ensures
+    ∙ (ap (λ m. both (for_of (plan_of c.in_ok-low.low)) m (λ s. turned s (with plan.block (walked_steps (numbers c.args.self.now) (entered s) (stmt_views c.args.body.now))))) c.in_ok-high.ensures
+    ∙ ap (with (for_of (plan_of c.in_ok-low.low) (plan_of c.in_ok-high.high))) c.in_ok-turn.ensures))
+    c.for_loop.ensures
+
+pub power-returns : goal.power-returns
+power-returns t c =
+    code_made c.operation_of_two.result _ (operated (plan_of c.in_ok-base.base) arithmetic.Power (plan_of c.in_ok-exponent.exponent)) (state c.expression-2.new.walk)
+    (ap (λ m. both (λ p q. operated p arithmetic.Power q) m (λ s. walked (numbers c.args.self.now) s (view c.args.exponent.now))) c.in_ok-base.ensures
+    ∙ ap (with (λ q. operated (plan_of c.in_ok-base.base) arithmetic.Power q)) c.in_ok-exponent.ensures)
+    c.operation_of_two.ensures

@@ -12,10 +12,11 @@ use Rattle.jt_syntax.specs.declared.script.Jump.{size-Jump}
 use Rattle.jt_syntax.specs.declared.script.Stmt.{Stmt, size-Stmt}
 use Rattle.jt_program.specs.Plan as plan
 use Rattle.jt_program.specs.View.{plan_of, arm_plan, piece_plan, piece_before}
-use Rattle.jt_nodes.specs.Chains.{operands_plan, none_of, all_more}
-use Rattle.jt_bind.specs.Behind.{behind, choice_before}
-use Rattle.jt_bind.specs.Made.{with}
-use Rattle.jt_bind.specs.Walked.{walked_all, walked_pieces, walked_terms, walked_arms, walked_steps}
+use Rattle.jt_nodes.specs.Views.{operands_plan}
+use Rattle.jt_lowered.specs.Chains.{none_of, all_more}
+use Rattle.jt_bound.specs.Behind.{behind, choice_before}
+use Rattle.jt_bound.specs.Made.{with}
+use Rattle.jt_bound.specs.Walked.{walked_all, walked_pieces, walked_terms, walked_arms, walked_steps}
 use Rattle.jt_bind.specs.Walks.{numbers, state}
 use Rattle.jt_bind.proofs.binder.Binder.+bind.Given as goal
 

@@ -5,14 +5,14 @@ use Rattle.jt_syntax.specs.Tree as tree
 use Rattle.jt_syntax.specs.View.{view, stmt_views, form_view, top_view}
 use Rattle.jt_program.specs.Plan as plan
 use Rattle.jt_program.specs.View.{plan_of, body_plan}
-use Rattle.jt_bind.specs.Behind.{behind}
-use Rattle.jt_bind.specs.Made.{with}
-use Rattle.jt_bind.specs.Programs.{one_more}
-use Rattle.jt_bind.specs.States.{entered}
-use Rattle.jt_bind.specs.Walked.{walked, walked_steps}
-use Rattle.jt_bind.specs.WalkedPrograms.{walked_functions}
+use Rattle.jt_bound.specs.Behind.{behind}
+use Rattle.jt_bound.specs.Made.{with}
+use Rattle.jt_bound.specs.Programs.{one_more}
+use Rattle.jt_bound.specs.States.{entered}
+use Rattle.jt_bound.specs.Walked.{walked, walked_steps}
+use Rattle.jt_bound.specs.WalkedPrograms.{walked_functions}
 use Rattle.jt_bind.specs.Walks.{numbers, state}
-use Rattle.jt_bind.proofs.Outcomes.{function_made}
+use Rattle.jt_bound.proofs.Outcomes.{function_made}
 use Rattle.jt_bind.proofs.binder.Binder.add_function.Goals as goal
 
 pub returns-in_ok-code-in-Function : goal.returns-in_ok-code-in-Function

@@ -5,12 +5,12 @@ use Rattle.jt_syntax.specs.Tree as tree
 use Rattle.jt_syntax.specs.View.{view, stmt_view, form_view, top_view}
 use Rattle.jt_program.specs.Plan as plan
 use Rattle.jt_program.specs.View.{plan_of}
-use Rattle.jt_bind.specs.Behind.{behind}
-use Rattle.jt_bind.specs.Made.{with}
-use Rattle.jt_bind.specs.Walked.{walked_step}
-use Rattle.jt_bind.specs.WalkedPrograms.{walked_definition, walked_main}
+use Rattle.jt_bound.specs.Behind.{behind}
+use Rattle.jt_bound.specs.Made.{with}
+use Rattle.jt_bound.specs.Walked.{walked_step}
+use Rattle.jt_bound.specs.WalkedPrograms.{walked_definition, walked_main}
 use Rattle.jt_bind.specs.Walks.{numbers, state}
-use Rattle.jt_bind.proofs.Outcomes.{part_made}
+use Rattle.jt_bound.proofs.Outcomes.{part_made}
 use Rattle.jt_bind.proofs.binder.Binder.add_part.Goals as goal
 
 pub returns-in_ok-code-in-Constant : goal.returns-in_ok-code-in-Constant

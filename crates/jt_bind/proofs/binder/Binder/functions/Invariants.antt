@@ -2,10 +2,10 @@
 use Rattle.std.proofs.Common.{◌≡◌, drop, map}
 use Rattle.jt_syntax.specs.View.{top_views}
 use Rattle.jt_program.specs.View.{body_plan}
-use Rattle.jt_bind.specs.Behind.{behind}
-use Rattle.jt_bind.specs.Made.{with}
-use Rattle.jt_bind.specs.Programs.{one_more}
-use Rattle.jt_bind.specs.WalkedPrograms.{walked_functions}
+use Rattle.jt_bound.specs.Behind.{behind}
+use Rattle.jt_bound.specs.Made.{with}
+use Rattle.jt_bound.specs.Programs.{one_more}
+use Rattle.jt_bound.specs.WalkedPrograms.{walked_functions}
 use Rattle.jt_bind.specs.Walks.{numbers, state}
 use Rattle.jt_bind.proofs.binder.Binder.functions.Given as goal
 

@@ -1,15 +1,16 @@
 -- At the loop's end `nothing` alone is left behind the parts that were made.
-use Rattle.std.proofs.Common.{ap, refl, sym, ◌∙◌, map}
+use Rattle.std.proofs.Common.{ap, refl, sym, ◌∙◌, map, arith}
+use Rattle.std.proofs.lemmas.Grind.{common_steps}
 use Rattle.jt_syntax.specs.View.{top_views}
 use Rattle.jt_program.specs.Plan as plan
 use Rattle.jt_program.specs.View.{plan_of, plans}
-use Rattle.jt_bind.specs.Behind.{behind}
-use Rattle.jt_nodes.specs.Lowered.{nothing_literal}
-use Rattle.jt_bind.specs.Made.{made, with}
-use Rattle.jt_bind.specs.WalkedPrograms.{walked_main}
+use Rattle.jt_bound.specs.Behind.{behind}
+use Rattle.jt_lowered.specs.Lowered.{nothing_literal}
+use Rattle.jt_bound.specs.Made.{made, with}
+use Rattle.jt_bound.specs.WalkedPrograms.{walked_main}
 use Rattle.jt_bind.specs.Walks.{numbers, state}
-use Rattle.jt_bind.proofs.Behind.{ended, with_pushed, plans_behind}
-use Rattle.jt_bind.proofs.Outcomes.{code_made}
+use Rattle.jt_bound.proofs.Behind.{ended, with_pushed, plans_behind}
+use Rattle.jt_bound.proofs.Outcomes.{code_made}
 use Rattle.jt_bind.proofs.binder.Binder.main.Goals as goal
 
 pub returns : goal.returns
@@ -23,3 +24,6 @@ returns c =
     ∙ (ap (λ cs. with (behind plan.plan cs) (made plan.no_plans (state c.loop-top.walk))) (sym c.in_ok-push.ensures)
     ∙ ap (λ b. made b (state c.loop-top.walk)) (plans_behind (map plan_of c.push.new.codes)))))))
     c.block.ensures
+
+pub loop-top-preserved : goal.loop-top-preserved
+loop-top-preserved c = grind (arith, common_steps)

@@ -3,9 +3,9 @@ use Rattle.std.proofs.Common.{◌≡◌, drop, map}
 use Rattle.jt_syntax.specs.View.{top_views}
 use Rattle.jt_program.specs.Plan as plan
 use Rattle.jt_program.specs.View.{plan_of}
-use Rattle.jt_bind.specs.Behind.{behind}
-use Rattle.jt_bind.specs.Made.{with}
-use Rattle.jt_bind.specs.WalkedPrograms.{walked_main}
+use Rattle.jt_bound.specs.Behind.{behind}
+use Rattle.jt_bound.specs.Made.{with}
+use Rattle.jt_bound.specs.WalkedPrograms.{walked_main}
 use Rattle.jt_bind.specs.Walks.{numbers, state}
 use Rattle.jt_bind.proofs.binder.Binder.main.Given as goal
 

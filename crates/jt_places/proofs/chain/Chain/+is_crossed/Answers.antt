@@ -1,7 +1,7 @@
 -- The innermost task's body, and those outside it.
 use Rattle.std.proofs.Common.{◌<◌, ◌-◌, arith}
 use Rattle.jt_places.specs.Kept.{assigns_once, crossed}
-use Rattle.jt_places.specs.Tests.{outer}
+use Rattle.jt_scopes.specs.Tests.{outer}
 use Rattle.jt_places.proofs.NameTests.{crossed_beyond, crossed_end, crossed_falls, crossed_here, crossed_step, crossed_there}
 use Rattle.jt_places.proofs.PlaceLaws.{rest, scope_kept}
 use Rattle.jt_places.proofs.chain.Chain.+is_crossed.Goals as goal

@@ -1,7 +1,7 @@
 -- The innermost scope that has the name decides with the tasks' bodies within it.
 use Rattle.std.proofs.Common.{◌≡◌}
 use Rattle.jt_places.specs.Kept.{names_in}
-use Rattle.jt_places.specs.Tests.{outer}
+use Rattle.jt_scopes.specs.Tests.{outer}
 use Rattle.jt_places.proofs.NameTests.{crosses_answer, crosses_empty}
 use Rattle.jt_places.proofs.PlaceLaws.{names_of_chain, rest, scope_kept}
 use Rattle.jt_places.proofs.chain.Chain.crosses.Goals as goal

@@ -1,7 +1,7 @@
 -- A loop, and outside it the script's own scope.
 use Rattle.std.proofs.Common.{◌&&◌, ◌∙◌, ap, sym, refl}
 use Rattle.jt_places.specs.Kept.{begins_global}
-use Rattle.jt_places.specs.Tests.{outer}
+use Rattle.jt_scopes.specs.Tests.{outer}
 use Rattle.jt_places.proofs.NameTests.{ambiguous_answer}
 use Rattle.jt_places.proofs.chain.Chain.is_ambiguous.Goals as goal
 

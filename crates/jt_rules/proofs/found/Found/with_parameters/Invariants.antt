@@ -1,6 +1,6 @@
 -- What is left of the parameters gives what all of them give.
 use Rattle.std.proofs.Common.{◌≡◌, [], false, drop}
-use Rattle.jt_rules.specs.Scripts.{parameters_break}
+use Rattle.jt_naming.specs.Scripts.{parameters_break}
 use Rattle.jt_rules.specs.Walk.{judged}
 use Rattle.jt_rules.proofs.found.Found.with_parameters.Given as goal
 

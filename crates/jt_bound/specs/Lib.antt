@@ -1,0 +1,9 @@
+pub mod Slots
+pub mod Made
+pub mod Behind
+pub mod Making
+pub mod Bound
+pub mod Programs
+pub mod States
+pub mod Walked
+pub mod WalkedPrograms

@@ -1,0 +1,4 @@
+pub mod Nodes
+pub mod Lowered
+pub mod Loops
+pub mod Chains

@@ -1,5 +1,0 @@
-use Rattle.std.proofs.Common.{length}
-use Rattle.jt_names.proofs.table.+last_within.Given as goal
-
-abbrev pub decreases-last_within : goal.decreases-last_within
-decreases-last_within l = length l.depths.now

@@ -1,0 +1,3 @@
+pub mod Rules
+pub mod Scripts
+pub mod Refusals

@@ -1,5 +1,0 @@
-use Rattle.jt_outline.proofs.Behind.{scope_viewed}
-use Rattle.jt_outline.proofs.walk.Walk.put_scope.Goals as goal
-
-pub returns : goal.returns
-returns c = c.put.ensures _ (scope_viewed c.args.kind c.args.at c.args.variables c.args.inner.marks)

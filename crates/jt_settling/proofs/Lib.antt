@@ -1,0 +1,4 @@
+pub mod Within
+pub mod Numbers
+pub mod Settled
+pub mod DirectMarks
