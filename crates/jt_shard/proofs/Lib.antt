@@ -1,13 +1,14 @@
 pub mod Asked
+pub mod Unchanged
 pub mod Refusals
 pub mod RunLaws
 pub mod Split
+pub mod Indexes
 pub mod Posted
 pub mod Sound
 pub mod Lines
 pub mod Stamps
 pub mod Room
-pub mod Served
 pub mod States
 pub mod Waking
 pub mod Applying

@@ -1,5 +1,5 @@
 -- The lines at the objects, when a job joins one or leaves one.
-use Rattle.std.proofs.Common.{◌≡◌, ℕ, List, [], ◌∷◌, ◌++◌, Option, Some, Bool, true, false, refl, sym, ap, ◌∙◌, subst, cond, get_or}
+use Rattle.std.proofs.Common.{◌≡◌, List, [], ◌∷◌, ◌++◌, Option, Some, Bool, true, false, refl, sym, ap, ◌∙◌, subst, cond, get_or}
 use Rattle.std.specs.Prelude.{filter}
 use Rattle.std.specs.List.{All}
 use Rattle.std.specs.List.Sorted.{IsPermutation}
@@ -12,15 +12,13 @@ use Rattle.jt_base.specs.declared.operation.Reply.{Reply}
 use Rattle.jt_base.specs.declared.entry.Entry.{Entry}
 use Rattle.jt_base.specs.Jobs.{Held}
 use Rattle.jt_base.specs.declared.object.Object.{Object}
-use Rattle.jt_base.specs.declared.object.Object.TheVariants.{Task}
-use Rattle.jt_laws.specs.Entries.{same_object, same_path}
-use Rattle.jt_laws.proofs.Paths.{same_equal}
-use Rattle.jt_histories.proofs.Lists.{same_object_refl}
+use Rattle.jt_laws.specs.Entries.{same_object}
+use Rattle.jt_histories.proofs.Lists.{by_test, same_object_refl, same_object_true}
 use Rattle.jt_shard.specs.declared.post.Post.{Post}
 use Rattle.jt_shard.specs.Shards.{object_for, reply_now, MustWait, line}
-use Rattle.jt_shard.specs.Posts.{post_at, with_post, line_of, waiting_in, Leaves, Joins, ArePosts}
-use Rattle.jt_shard.proofs.Split.{tied, tied_same, by_test, apart, All-left, All-right, all_waiting, each_entry, split, waits_round}
-use Rattle.jt_shard.proofs.Sound.{post_is, past_of, allowed_now, all_refused}
+use Rattle.jt_shard.specs.Posts.{equal_objects, post_at, with_post, line_of, waiting_in, FirstLeaves, JoinsPost, ArePosts}
+use Rattle.jt_shard.proofs.Split.{equal_same, apart, All-left, All-right, all_waiting, each_entry, split, waits_round}
+use Rattle.jt_shard.proofs.Sound.{some_same, post_is, allowed_now, all_refused}
 
 module _ {X : Type 0} (f : X → Bool) where
   filter_nothing : (xs : List X) → All (λ x. f x ≡ false) xs → filter f xs ≡ []
@@ -62,42 +60,42 @@ module _ {X : Type 0} where
       (subst (λ l. IsPermutation ((front ++ a) ++ w ∷ (b ++ back)) (w ∷ l)) (append_assoc front a (b ++ back) ∙ ap (λ l. front ++ l) (sym (append_assoc a b back)))
       (IsPermutation-middle (front ++ a) w (b ++ back)))
 
-apart_tasks : (p q : List ℕ) → (p ≡ q → ⊥) → same_object (Task p) (Task q) ≡ false
-apart_tasks p q n = by_test (same_path p q) (λ t. absurd (n (same_equal p q t))) (λ f. f)
+apart_objects : (o q : Object) → (o ≡ q → ⊥) → same_object o q ≡ false
+apart_objects o q n = by_test (same_object o q) (λ t. absurd (n (same_object_true o q t))) (λ f. f)
 
 module _ {J S : Type 0} (told : J → Held S) where
-  -- nobody waits for a task at other posts
-  none_elsewhere : (path : List ℕ) (es : List (List ℕ × Post J)) → All (λ e. All (λ w. object_for told w.0 w.1 ≡ Task e.0) (line_of e)) es → All (λ e. e.0 ≡ path → ⊥) es → (o : Object) → o ≡ Task path → line told o (waiting_in es) ≡ []
-  none_elsewhere path es h n o is =
+  -- nobody waits for an object at other posts
+  none_elsewhere : (key : Object) (es : List (Object × Post J)) → All (λ e. All (λ w. object_for told w.0 w.1 ≡ e.0) (line_of e)) es → All (λ e. e.0 ≡ key → ⊥) es → (o : Object) → o ≡ key → line told o (waiting_in es) ≡ []
+  none_elsewhere key es h n o is =
       filter_nothing (λ w. same_object (object_for told w.0 w.1) o) (waiting_in es)
       (all_waiting (λ w. same_object (object_for told w.0 w.1) o ≡ false) es
-      (λ k d l i x m. ap (λ z. same_object z o) (h k d l i x m) ∙ ap (same_object (Task (get_or es k d).0)) is ∙ apart_tasks (get_or es k d).0 path (n k d l)))
+      (λ k d l i x m. ap (λ z. same_object z o) (h k d l i x m) ∙ ap (same_object (get_or es k d).0) is ∙ apart_objects (get_or es k d).0 key (n k d l)))
 
-  here_all : (log : List Entry) (t : Option (List ℕ)) (posts : List (List ℕ × Post J)) → ArePosts told log t posts → All (λ e. All (λ w. object_for told w.0 w.1 ≡ Task e.0) (line_of e)) posts
+  here_all : (log : List Entry) (t : Option Object) (posts : List (Object × Post J)) → ArePosts told log t posts → All (λ e. All (λ w. object_for told w.0 w.1 ≡ e.0) (line_of e)) posts
   here_all log t posts a =
-      each_entry (λ q v. All (λ w. object_for told w.0 w.1 ≡ Task q) v.waiting.items) posts a.ordered (λ q v e. (post_is told log t posts q v a e).here)
+      each_entry (λ q v. All (λ w. object_for told w.0 w.1 ≡ q) v.waiting.items) posts a.distinct (λ q v e. (post_is told log t posts q v a e).here)
 
   -- the lists of a post's neighbours
-  pub record Round (posts : List (List ℕ × Post J)) (path : List ℕ) (before : Post J) : Type 0 where
+  pub record Round (posts : List (Object × Post J)) (key : Object) (before : Post J) : Type 0 where
     pub front : List (J × Op)
     pub back : List (J × Op)
     pub had : waiting_in posts ≡ front ++ (before.waiting.items ++ back)
-    pub has : (after : Post J) → waiting_in (with_post posts path after) ≡ front ++ (after.waiting.items ++ back)
-    pub front_none : (o : Object) → o ≡ Task path → line told o front ≡ []
-    pub back_none : (o : Object) → o ≡ Task path → line told o back ≡ []
+    pub has : (after : Post J) → waiting_in (with_post posts key after) ≡ front ++ (after.waiting.items ++ back)
+    pub front_none : (o : Object) → o ≡ key → line told o front ≡ []
+    pub back_none : (o : Object) → o ≡ key → line told o back ≡ []
 
-  pub round : (log : List Entry) (t : Option (List ℕ)) (posts : List (List ℕ × Post J)) (path : List ℕ) (before : Post J) → ArePosts told log t posts → post_at posts path ≡ Some before → Round posts path before
-  round log t posts path before a there =
-      let s = split posts path before a.ordered there in
-      let h = subst (All (λ e. All (λ w. object_for told w.0 w.1 ≡ Task e.0) (line_of e))) s.had (here_all log t posts a) in
+  pub round : (log : List Entry) (t : Option Object) (posts : List (Object × Post J)) (key : Object) (before : Post J) → ArePosts told log t posts → post_at posts key ≡ Some before → Round posts key before
+  round log t posts key before a there =
+      let s = split posts key before a.distinct there in
+      let h = subst (All (λ e. All (λ w. object_for told w.0 w.1 ≡ e.0) (line_of e))) s.had (here_all log t posts a) in
       record {
         front = waiting_in s.front;
         back = waiting_in s.back;
-        had = ap waiting_in s.had ∙ waits_round s.front s.back path before;
-        has = λ after. ap waiting_in (s.has after) ∙ waits_round s.front s.back path after;
-        front_none = none_elsewhere path s.front (All-left (λ e. All (λ w. object_for told w.0 w.1 ≡ Task e.0) (line_of e)) s.front ((path, before) ∷ s.back) h) s.front_apart;
-        back_none = none_elsewhere path s.back
-            (All-tail (λ e. All (λ w. object_for told w.0 w.1 ≡ Task e.0) (line_of e)) (path, before) s.back (All-right (λ e. All (λ w. object_for told w.0 w.1 ≡ Task e.0) (line_of e)) s.front ((path, before) ∷ s.back) h)) s.back_apart;
+        had = ap waiting_in s.had ∙ waits_round s.front s.back key before;
+        has = λ after. ap waiting_in (s.has after) ∙ waits_round s.front s.back key after;
+        front_none = none_elsewhere key s.front (All-left (λ e. All (λ w. object_for told w.0 w.1 ≡ e.0) (line_of e)) s.front ((key, before) ∷ s.back) h) s.front_apart;
+        back_none = none_elsewhere key s.back
+            (All-tail (λ e. All (λ w. object_for told w.0 w.1 ≡ e.0) (line_of e)) (key, before) s.back (All-right (λ e. All (λ w. object_for told w.0 w.1 ≡ e.0) (line_of e)) s.front ((key, before) ∷ s.back) h)) s.back_apart;
       }
 
   -- a job joins
@@ -106,9 +104,9 @@ module _ {J S : Type 0} (told : J → Held S) where
     pub own : line told (object_for told w.0 w.1) more ≡ line told (object_for told w.0 w.1) waiting ++ w ∷ []
     pub others : (o : Object) → same_object (object_for told w.0 w.1) o ≡ false → line told o more ≡ line told o waiting
 
-  pub joins_line : (log : List Entry) (t : Option (List ℕ)) (posts joined : List (List ℕ × Post J)) (path : List ℕ) (w : J × Op) → ArePosts told log t posts → Joins posts path w joined → object_for told w.0 w.1 ≡ Task path → JoinsLine (waiting_in posts) w (waiting_in joined)
-  joins_line log t posts joined path w a j o =
-      let r = round log t posts path j.before a j.there in
+  pub joins_line : (log : List Entry) (t : Option Object) (posts joined : List (Object × Post J)) (key : Object) (w : J × Op) → ArePosts told log t posts → JoinsPost posts key w joined → object_for told w.0 w.1 ≡ key → JoinsLine (waiting_in posts) w (waiting_in joined)
+  joins_line log t posts joined key w a j o =
+      let r = round log t posts key j.before a j.there in
       let mine = object_for told w.0 w.1 in
       let new : waiting_in joined ≡ r.front ++ ((j.before.waiting.items ++ w ∷ []) ++ r.back) = ap waiting_in j.is ∙ r.has j.after ∙ ap (λ l. r.front ++ (l ++ r.back)) j.waiting in
       record {
@@ -137,35 +135,31 @@ module _ {J S : Type 0} (told : J → Held S) where
     pub others : (o : Object) → same_object (object_for told w.0 w.1) o ≡ false → line told o less ≡ line told o waiting
     pub permuted : IsPermutation waiting (w ∷ less)
 
-  others_wait : (log : List Entry) (path : List ℕ) (posts : List (List ℕ × Post J)) (o : Object) → o ≡ Task path → ArePosts told log (Some path) posts → All (λ v. same_object (object_for told v.0 v.1) o ≡ false → MustWait told log v) (waiting_in posts)
-  others_wait log path posts o is a =
+  others_wait : (log : List Entry) (key : Object) (posts : List (Object × Post J)) (o : Object) → o ≡ key → ArePosts told log (Some key) posts → All (λ v. same_object (object_for told v.0 v.1) o ≡ false → MustWait told log v) (waiting_in posts)
+  others_wait log key posts o is a =
       all_waiting (λ v. same_object (object_for told v.0 v.1) o ≡ false → MustWait told log v) posts
-      (each_entry (λ q p. All (λ v. same_object (object_for told v.0 v.1) o ≡ false → MustWait told log v) p.waiting.items) posts a.ordered
-      (λ q p e. let i = post_is told log (Some path) posts q p a e in
-      λ k d l n. by_test (tied path q)
-      (λ t. absurd (false≢true (sym n ∙ ap (λ z. same_object z o) (i.here k d l) ∙ ap (λ z. same_object (Task z) o) (sym (tied_same path q t)) ∙ ap (same_object (Task path)) is ∙ same_object_refl (Task path))))
-      (λ f. i.settled (λ s. apart path q f (some_path path q s)) k d l)))
-    where
-      some_path : (p q : List ℕ) → Some p ≡ Some q → p ≡ q
-      some_path p q s = cc
+      (each_entry (λ q p. All (λ v. same_object (object_for told v.0 v.1) o ≡ false → MustWait told log v) p.waiting.items) posts a.distinct
+      (λ q p e. let i = post_is told log (Some key) posts q p a e in
+      λ k d l n. by_test (equal_objects key q)
+      (λ t. absurd (false≢true (sym n ∙ ap (λ z. same_object z o) (i.here k d l) ∙ ap (λ z. same_object z o) (sym (equal_same key q t)) ∙ ap (same_object key) is ∙ same_object_refl key)))
+      (λ f. i.settled (λ s. apart key q f (some_same key q s)) k d l)))
 
-  pub leaves_line : (log : List Entry) (posts : List (List ℕ × Post J)) (path : List ℕ) (before after : Post J) (w : J × Op) → ArePosts told log (Some path) posts → post_at posts path ≡ Some before → Leaves before w after → LeavesLine log (waiting_in posts) w (waiting_in (with_post posts path after))
-  leaves_line log posts path before after w a there v =
-      let r = round log (Some path) posts path before a there in
-      let i = post_is told log (Some path) posts path before a there in
-      let p = past_of told log (Some path) posts path before a there in
-      let here = subst (All (λ x. object_for told x.0 x.1 ≡ Task path)) v.had i.here in
-      let o : object_for told w.0 w.1 ≡ Task path = All-head (λ x. object_for told x.0 x.1 ≡ Task path) w v.back (All-right (λ x. object_for told x.0 x.1 ≡ Task path) v.front (w ∷ v.back) here) in
+  pub leaves_line : (log : List Entry) (posts : List (Object × Post J)) (key : Object) (before after : Post J) (w : J × Op) → ArePosts told log (Some key) posts → post_at posts key ≡ Some before → FirstLeaves told before w after → LeavesLine log (waiting_in posts) w (waiting_in (with_post posts key after))
+  leaves_line log posts key before after w a there v =
+      let r = round log (Some key) posts key before a there in
+      let i = post_is told log (Some key) posts key before a there in
+      let here = subst (All (λ x. object_for told x.0 x.1 ≡ key)) v.had i.here in
+      let o : object_for told w.0 w.1 ≡ key = All-head (λ x. object_for told x.0 x.1 ≡ key) w v.back (All-right (λ x. object_for told x.0 x.1 ≡ key) v.front (w ∷ v.back) here) in
       let mine = object_for told w.0 w.1 in
       let old : waiting_in posts ≡ r.front ++ ((v.front ++ w ∷ v.back) ++ r.back) = r.had ∙ ap (λ l. r.front ++ (l ++ r.back)) v.had in
-      let new : waiting_in (with_post posts path after) ≡ r.front ++ ((v.front ++ v.back) ++ r.back) = r.has after ∙ ap (λ l. r.front ++ (l ++ r.back)) v.has in
+      let new : waiting_in (with_post posts key after) ≡ r.front ++ ((v.front ++ v.back) ++ r.back) = r.has after ∙ ap (λ l. r.front ++ (l ++ r.back)) v.has in
       record {
-        allowed = allowed_now told log path before.completion w p o v.allowed;
-        one_line = others_wait log path posts mine o a;
+        allowed = allowed_now told log (Some key) key before w a.lawful i o v.allowed;
+        one_line = others_wait log key posts mine o a;
         front = line told mine v.front;
         back = line told mine v.back;
         front_waits = All-filter (λ x. same_object (object_for told x.0 x.1) mine) (MustWait told log) v.front
-            (all_refused told log path before.completion v.front p (All-left (λ x. object_for told x.0 x.1 ≡ Task path) v.front (w ∷ v.back) here) v.refused);
+            (all_refused told log (Some key) key before v.front a.lawful i (All-left (λ x. object_for told x.0 x.1 ≡ key) v.front (w ∷ v.back) here) v.refused);
         own = ap (line told mine) old
             ∙ filter_mid (λ x. same_object (object_for told x.0 x.1) mine) r.front (v.front ++ w ∷ v.back) r.back (r.front_none mine o) (r.back_none mine o)
             ∙ filter-append (λ x. same_object (object_for told x.0 x.1) mine) v.front (w ∷ v.back)

@@ -1,18 +1,22 @@
 -- Which operations may change the state of their object.
 use Rattle.std.specs.Prelude.{◌≡◌, ℕ, List, [], ◌∷◌, ◌++◌, Some, None, Bool, true, false}
 use Rattle.jt_base.specs.declared.operation.Op.{Op}
-use Rattle.jt_base.specs.declared.operation.Op.TheVariants.{Fetch, Wait, Yield, Print}
+use Rattle.jt_base.specs.declared.operation.Op.TheVariants.{Fetch, Wait, Yield, Print, Landed, IsOpen, IsReady, AGet}
 use Rattle.jt_base.specs.declared.entry.Entry.{Entry}
 use Rattle.jt_base.specs.Objects.{object_of}
 use Rattle.jt_laws.specs.Entries.{object}
 use Rattle.jt_laws.specs.Objects.{reply_after}
 
--- those that only look, wait, yield or print don't
+-- those that only look, wait for a task or an offer, yield or print don't
 abbrev pub changes : Op → Bool
 changes (Fetch path) = false
 changes (Wait path) = false
 changes Yield = false
 changes (Print text) = false
+changes (Landed name number) = false
+changes (IsOpen name) = false
+changes (IsReady name) = false
+changes (AGet name) = false
 changes op = true
 
 -- after an entry of this operation an object refuses what it refused before

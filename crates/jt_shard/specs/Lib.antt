@@ -1,4 +1,3 @@
-pub mod Serving
 pub mod Shards
 pub mod Posts
 pub mod Asking

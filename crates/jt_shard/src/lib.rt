@@ -1,5 +1,5 @@
 //! A shard: the objects of one of the sixteen shards with their entries, and the jobs that wait for
-//! them. Tasks and the printer are served.
+//! them, of whatever kind these are.
 #![tactic(auto)]
 
 mod applied;

@@ -1,6 +1,6 @@
 //! A job's entry: its stamp, and what the job notes of it.
 
-ghost use Rattle.std.specs.Prelude.{◌≡◌, ◌<◌, ◌≤◌, ◌+◌, max, MatchOption};
+ghost use Rattle.std.specs.Prelude.{◌≡◌, ◌<◌, ◌≤◌, ◌+◌, ◌^◌, max, MatchOption};
 ghost use Rattle.jt_base.specs.declared.entry.Entry.{Entry as EntryOf};
 ghost use Rattle.jt_laws.specs.Seats.{seat_after};
 ghost use Rattle.jt_histories.specs.Jobs.{last_entry, noted_job};
@@ -19,7 +19,7 @@ fn last_stamp(log: &[Entry]) -> u32
 
 /// The stamp after that of a job and those of a log; none beyond the limit.
 pub(crate) fn stamp_after(last: u32, log: &[Entry], events: u32) -> Option<u32>
-    ensures { MatchOption result (events < max last (last_entry log.now) + 1) (λ stamp. (stamp ≡ max last (last_entry log.now) + 1) × (stamp ≤ events)) }
+    ensures { MatchOption result (events < max last (last_entry log.now) + 1) (λ stamp. (stamp ≡ max last (last_entry log.now) + 1) × (stamp ≤ events) × (stamp < 2 ^ 32)) }
 {
     let before = last.max(last_stamp(log));
     if before < events {

@@ -1,19 +1,18 @@
 //! The objects of one shard, with their entries and the jobs that wait for them.
 
-ghost use Rattle.std.specs.Prelude.{◌≡◌, true, length, map, OnOk, OnErr};
+ghost use Rattle.std.specs.Prelude.{◌≡◌, length, map, OnOk, OnErr};
 ghost use Rattle.jt_base.specs.Objects.{shard_of_object};
-ghost use Rattle.jt_shard.specs.Serving.{serves};
 ghost use Rattle.jt_shard.specs.Shards.{empty_shard, object_for, MustWait, IsSettled, HasRoom};
 ghost use Rattle.jt_shard.specs.Calls.{Applies, Parks, WakesNext};
 
 use crate::applied::Applied;
 use crate::changing::touched;
 use crate::noting::{note, stamp_after};
-use crate::posts::{Posts, ask, is_allowed, join, leave, released, reserve_place};
+use crate::posts::{Posts, ask, is_allowed, join, leave, released, reserve_at};
 use crate::spare::{Spare, reserve_spare};
-use jt_base::{Ask, Entry, Job, Object, Op, OutOfMemory, Path};
+use indexmap::IndexMap;
+use jt_base::{Ask, Entry, Job, Object, Op, OutOfMemory};
 use std::alloc::Global;
-use std::collections::BTreeMap;
 use std::marker::Model;
 
 /// The objects of one shard by name, their entries, and the jobs that wait for them, each with its
@@ -26,10 +25,10 @@ pub struct Shard<J: Job> {
     alloc: Global,
     log: Vec<Entry>,
     posts: Posts<J>,
-    /// The only task whose waiting jobs may be allowed.
-    touched: Option<Path>,
-    /// The object for whose next operation there is room.
-    reserved: Option<Object>,
+    /// The index of the only object whose waiting jobs may be allowed.
+    touched: Option<usize>,
+    /// The index of the object for whose next operation there is room.
+    reserved: Option<usize>,
     /// How many jobs wait.
     count: usize,
     /// Room in which all waiting jobs can be given back.
@@ -40,13 +39,13 @@ pub struct Shard<J: Job> {
 
 impl<J: Job> Model for Shard<J> {
     ghost use Rattle.jt_shard.specs.Shards.{ShardState};
-    ghost use Rattle.jt_shard.specs.Posts.{waiting_in, HasMemoryIf, IsCounted, ArePosts};
+    ghost use Rattle.jt_shard.specs.Posts.{object_at, waiting_in, HasMemoryIf, IsCounted, IsStamped, ArePosts};
 
     ghost Value = { ShardState J };
 
-    ghost view = { λ s. record { number = s.number; events = s.events; log = s.log.items; waiting = waiting_in s.posts.entries; reserved = s.reserved } };
+    ghost view = { λ s. record { number = s.number; events = s.events; log = s.log.items; waiting = waiting_in s.posts.entries; reserved = object_at s.posts.entries s.reserved } };
 
-    ghost invariant = { λ s. ArePosts J.told s.log.items s.touched s.posts.entries × (IsCounted s.posts.entries s.count s.jobs × HasMemoryIf s.log s.jobs s.spare s.posts.entries s.reserved) };
+    ghost invariant = { λ s. ArePosts J.told s.log.items (object_at s.posts.entries s.touched) s.posts.entries × (IsCounted s.posts.entries s.count s.jobs × (HasMemoryIf s.log s.jobs s.spare s.posts.entries (object_at s.posts.entries s.reserved) × IsStamped s.log.items)) };
 }
 
 impl<J: Job> Shard<J> {
@@ -60,7 +59,7 @@ impl<J: Job> Shard<J> {
             events,
             alloc,
             log: Vec::new(alloc),
-            posts: BTreeMap::new(alloc),
+            posts: IndexMap::new(alloc),
             touched: None,
             reserved: None,
             count: 0,
@@ -87,7 +86,6 @@ impl<J: Job> Shard<J> {
     /// wait for it. The room stands until an entry is made, a job is parked or a job is woken. After
     /// `OutOfMemory` the shard is as it was.
     pub fn reserve(&mut self, job: &mut J, op: &Op) -> Result<(), OutOfMemory>
-        requires serves { serves op.now ≡ true }
         ensures room { OnOk result (HasRoom J.told J.room self.new job.new op.now) }
         ensures kept { self.new ≡ record self.old { reserved = self.new.reserved } }
         ensures err { OnErr result (self.new ≡ self.old) }
@@ -102,8 +100,8 @@ impl<J: Job> Shard<J> {
         self.jobs.reserve(count)?;
         self.log.reserve(1)?;
         reserve_spare(self.alloc, &mut self.spare)?;
-        reserve_place(self.alloc, &mut self.posts, &object)?;
-        self.reserved = Some(object);
+        let index = reserve_at(self.alloc, &mut self.posts, object)?;
+        self.reserved = Some(index);
         Ok(())
     }
 
@@ -112,28 +110,27 @@ impl<J: Job> Shard<J> {
     /// spawn by `@async`. Otherwise the operation is given back, and nothing changes. It takes no
     /// memory.
     pub fn apply(&mut self, job: &mut J, op: Op, worker: u32) -> Applied
-        requires serves { serves op ≡ true }
         requires here { shard_of_object (object_for J.told job.old op) ≡ self.old.number }
         requires settled { IsSettled J.told self.old }
         requires room { HasRoom J.told J.room self.old job.old op }
         ensures applies { Applies J.told self.old job.old op worker result self.new job.new }
         ensures run { J.run job.new ≡ J.run job.old }
     {
-        let Some(object) = &self.reserved else {
+        let Some(index) = self.reserved else {
             unreachable!();
         };
         let Some(stamp) = stamp_after(job.last_stamp(), self.log.as_slice(), self.events) else {
-            if is_allowed(&self.posts, object, &op) {
+            if is_allowed::<J>(&self.posts, index, job.path(), &op) {
                 return Applied::StampLimit(op);
             }
             return Applied::NotYet(op);
         };
-        let reply = match ask::<J>(&mut self.posts, object, &op) {
+        let reply = match ask::<J>(&mut self.posts, self.alloc, index, job.path(), &op) {
             Ask::NotYet => return Applied::NotYet(op),
             Ask::Done(reply) => reply,
         };
         note(job, stamp, reply.copy(), &op, worker);
-        self.touched = touched(object, &op);
+        self.touched = touched(index, &op);
         self.reserved = None;
         self.log.push_reserved(Entry {
             stamp,
@@ -148,7 +145,6 @@ impl<J: Job> Shard<J> {
     /// A job whose operation isn't allowed now, and for which there is room, joins the end of the
     /// line at its object. It takes no memory.
     pub fn park(&mut self, job: J, op: Op)
-        requires serves { serves op ≡ true }
         requires here { shard_of_object (object_for J.told job op) ≡ self.old.number }
         requires not_allowed { MustWait J.told self.old.log (job, op) }
         requires room { HasRoom J.told J.room self.old job op }
@@ -158,10 +154,10 @@ impl<J: Job> Shard<J> {
         let Some(spare) = self.spare.take() else {
             unreachable!();
         };
-        match self.reserved.take() {
-            Some(Object::Task(task)) => join(&mut self.posts, &task, spare.fill((job, op))),
-            _ => unreachable!(),
-        }
+        let Some(index) = self.reserved.take() else {
+            unreachable!();
+        };
+        join(&mut self.posts, index, spare.fill((job, op)));
         self.count += 1;
     }
 
@@ -170,11 +166,10 @@ impl<J: Job> Shard<J> {
     pub fn next_woken(&mut self) -> Option<(J, Op)>
         ensures { WakesNext J.told self.old result self.new }
     {
-        let task = match &self.touched {
-            Some(task) => task.copy(),
-            None => return None,
+        let Some(index) = self.touched else {
+            return None;
         };
-        let woken = leave(&mut self.posts, &task);
+        let woken = leave(&mut self.posts, index);
         if woken.is_some() {
             self.count -= 1;
             self.reserved = None;

@@ -11,11 +11,11 @@ pub loop-i-preserved : goal.loop-i-preserved
 loop-i-preserved g c =
     let l : c.loop-i.i < length c.args.waiting.now.items = omega (arith, c.args.waiting.now.ok) in (
       omega arith,
-      All-more (λ (w : g.row.J.Denot × Op). Refuses c.args.completion.now w.1) c.args.waiting.now.items c.loop-i.i c.index.result.now l c.loop-i.invariant.1
-          (subst (λ (w : g.row.J.Denot × Op). Refuses c.args.completion.now w.1) (c.get.ensures ∙ c.index.ensures) c.if-allows.ensures),
+      All-more (λ (w : g.row.J.Denot × Op). Refuses c.args.state.now (g.J.Job.told w.0).path w.1) c.args.waiting.now.items c.loop-i.i c.index.result.now l c.loop-i.invariant.1
+          (subst (λ (w : g.row.J.Denot × Op). Refuses c.args.state.now (g.J.Job.told w.0).path w.1) (c.get.ensures ∙ c.index.ensures) c.if-allows.ensures),
     )
 
 pub returns-clause-none : goal.returns-clause-none
 returns-clause-none g c =
     let l : length c.args.waiting.now.items ≤ c.loop-i.i = omega (arith, c.args.waiting.now.ok) in
-    subst (All (λ (w : g.row.J.Denot × Op). Refuses c.args.completion.now w.1)) (take_all c.loop-i.i c.args.waiting.now.items l) c.loop-i.invariant.1
+    subst (All (λ (w : g.row.J.Denot × Op). Refuses c.args.state.now (g.J.Job.told w.0).path w.1)) (take_all c.loop-i.i c.args.waiting.now.items l) c.loop-i.invariant.1

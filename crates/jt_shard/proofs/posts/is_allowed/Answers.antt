@@ -1,12 +1,15 @@
--- The printer allows every print; a task allows what its completion does.
-use Rattle.std.proofs.Common.{Some, ap, ◌∙◌}
-use Rattle.jt_base.specs.declared.operation.Reply.TheVariants as reply
-use Rattle.jt_shard.proofs.Sound.{printer_replies, allows_at}
+-- The post at the index is that of its object.
+use Rattle.std.proofs.Common.{Some, subst, sym, ap, ◌∙◌}
+use Rattle.std.specs.Prelude.{MatchBool}
+use Rattle.jt_shard.specs.declared.post.Post.{Post}
+use Rattle.jt_shard.specs.Asking.{Allows, Refuses}
+use Rattle.jt_shard.proofs.Asked.{told_by}
+use Rattle.jt_shard.proofs.Indexes.{is_post}
 use Rattle.jt_shard.proofs.posts.is_allowed.Goals as goal
 
-pub returns-in-Printer : goal.returns-in-Printer
-returns-in-Printer g c = λ log task o a. (reply.Ok, printer_replies _ task c.args.op.now (o ∙ c.in-Printer.is))
-
-pub returns-in-Some : goal.returns-in-Some
-returns-in-Some g c = λ log task o a.
-    allows_at g.J.Job.told log c.args.posts.now.entries c.args.object.now c.in-Task.path task c.args.op.now c.get-in-Some.result.now c.allows.result c.in-Task.is (ap Some c.get-in-Some.ensures ∙ c.in-Some.ensures.value) c.allows.ensures o a
+pub returns : goal.returns
+returns g c = λ o post at there.
+    let value = c.index.ensures ∙ ap Some (sym c.get.ensures) in
+    subst (λ (p : Post g.row.J.Denot). MatchBool c.allows.result (Allows p.state c.args.task.now c.args.op.now) (Refuses p.state c.args.task.now c.args.op.now))
+    (sym (is_post c.args.posts.now.entries c.args.index o c.get.result.now c.requires.distinct at value post there))
+    (told_by c.get.result.now.state c.args.task.now c.args.op.now c.allows.result c.allows.ensures)

@@ -6,7 +6,4 @@ use Rattle.jt_shard.proofs.posts.released.Given as goal
 -- the jobs that were released, and those that still wait
 abbrev pub invariant-loop-post : goal.invariant-loop-post
 invariant-loop-post g l =
-    (l.jobs.items ++ map (λ w. w.0) (waiting_in l.posts.entries) ≡ l.fn.jobs.items ++ map (λ w. w.0) (waiting_in l.fn.posts.entries)) × (length l.jobs.items + length (waiting_in l.posts.entries) ≤ vec_capacity l.jobs)
-
-abbrev pub decreases-loop-post : goal.decreases-loop-post
-decreases-loop-post g l = length l.posts.entries
+    (l.jobs.items ++ map (λ w. w.0) (waiting_in l.post-iterator) ≡ l.fn.jobs.items ++ map (λ w. w.0) (waiting_in l.fn.posts.entries)) × (length l.jobs.items + length (waiting_in l.post-iterator) ≤ vec_capacity l.jobs)
