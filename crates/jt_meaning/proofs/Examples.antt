@@ -25,6 +25,7 @@ use Rattle.jt_program.specs.Plan as plan
 use Rattle.jt_meaning.specs.declared.start.Start.{Start}
 use Rattle.jt_meaning.specs.Meaning.{meaning, go}
 use Rattle.jt_meaning.specs.Values.{is_utf8}
+use Rattle.jt_meaning.specs.Run.{Run}
 use Rattle.jt_meaning.specs.Next.{next_operation}
 
 -- ---- how programs are written here
@@ -71,11 +72,15 @@ body n e = record { variables = n; code = e }
 abbrev start : Start
 start = record { code = 0; captured = []; constants = []; home = true; stream = replicate 5 0; how = Default }
 
+-- a run of a program with at most so many turns
+abbrev run_of : ProgramPlan → ℕ → Run
+run_of program turns = record { program = program; sizes = record { default = 1; interactive = 0 }; limits = record { turns = turns; events = 1000 } }
+
 -- what comes after so many replies `ok` in a program of these functions and this main task, with at
 -- most so many turns
 abbrev comes : List BodyPlan → BodyPlan → ℕ → ℕ → Option (Next Start)
 comes functions main turns n =
-    next_operation (record { constants = 0; functions = functions; tasks = main ∷ [] }) turns [] start (replicate n reply.Ok)
+    next_operation (run_of (record { constants = 0; functions = functions; tasks = main ∷ [] }) turns) [] start (replicate n reply.Ok)
 
 abbrev many : ℕ
 many = 100000000
@@ -196,12 +201,12 @@ unfolding go meaning
 unconditional = refl
 
 -- a constant has no value before its definition
-constant : next_operation (record { constants = 1; functions = []; tasks = body 0 (block (plan.define 0 (plan.constant 0) ∷ [])) ∷ [] }) many [] start (reply.Ok ∷ []) ≡ Some (Needs (Fail Undefined))
+constant : next_operation (run_of (record { constants = 1; functions = []; tasks = body 0 (block (plan.define 0 (plan.constant 0) ∷ [])) ∷ [] }) many) [] start (reply.Ok ∷ []) ≡ Some (Needs (Fail Undefined))
 unfolding go meaning
 constant = refl
 
 -- a print is not replied that it failed
-unfit : next_operation (record { constants = 0; functions = []; tasks = body 0 (show (number 5)) ∷ [] }) many [] start (reply.Ok ∷ reply.Failed ∷ []) ≡ None
+unfit : next_operation (run_of (record { constants = 0; functions = []; tasks = body 0 (show (number 5)) ∷ [] }) many) [] start (reply.Ok ∷ reply.Failed ∷ []) ≡ None
 unfolding go meaning
 unfit = refl
 
@@ -211,7 +216,7 @@ unfit = refl
 -- it has replies behind that of its beginning
 abbrev goes_on : List ℕ → BodyPlan → BodyPlan → List Reply → Option (Next Start)
 goes_on path main other replies =
-    next_operation (record { constants = 0; functions = []; tasks = main ∷ other ∷ [] }) many path start (reply.Ok ∷ replies)
+    next_operation (run_of (record { constants = 0; functions = []; tasks = main ∷ other ∷ [] }) many) path start (reply.Ok ∷ replies)
 
 abbrev spawn : List ℕ → Bool → Plan
 spawn slots awaits = plan.spawn 1 slots awaits
@@ -257,7 +262,7 @@ unfolding go meaning
 spawn_unfit = refl
 
 -- the child has the value that x had
-answers : next_operation (record { constants = 0; functions = []; tasks = asks ∷ answer ∷ [] }) many (0 ∷ []) (child (Int (pos 7) ∷ [])) (reply.Ok ∷ []) ≡ Some (Needs (End (Int (pos 12))))
+answers : next_operation (run_of (record { constants = 0; functions = []; tasks = asks ∷ answer ∷ [] }) many) (0 ∷ []) (child (Int (pos 7) ∷ [])) (reply.Ok ∷ []) ≡ Some (Needs (End (Int (pos 12))))
 unfolding go meaning wrapped
 answers = refl
 

@@ -18,6 +18,7 @@ use Rattle.jt_program.specs.declared.code.Callee.TheVariants as callee
 use Rattle.jt_program.specs.Plan.{Plan, Plans, Operands, Comparisons, Choices, Pieces, BodyPlan, ProgramPlan}
 use Rattle.jt_program.specs.Plan as plan
 use Rattle.jt_meaning.specs.declared.start.Start.{Start}
+use Rattle.jt_meaning.specs.Run.{Run}
 use Rattle.jt_meaning.specs.State.{State, Out, Gave, Returned, Broke, Continued, Faulted, Asks, Unfit, Step, bind, ask, turn, enter, renew, renew_with}
 use Rattle.jt_meaning.specs.Values.{Valued, value_of, operated, unary_of, applied, compared_by, shown, shown_with, text_of, error_of}
 
@@ -325,7 +326,7 @@ beginning program turns path start replies = record {
   stream = start.stream;
 }
 
--- what a task does from its beginning
-abbrev pub task : ProgramPlan → ℕ → List ℕ → Start → List Reply → Out
-task program turns path start replies =
-    task_of program (slice_get program.tasks start.code) start.captured (beginning program turns path start replies)
+-- what a task of a run does from its beginning
+abbrev pub task : Run → List ℕ → Start → List Reply → Out
+task run path start replies =
+    task_of run.program (slice_get run.program.tasks start.code) start.captured (beginning run.program run.limits.turns path start replies)

@@ -6,7 +6,6 @@ use Rattle.jt_base.specs.declared.operation.Op.TheVariants.{End, Fail, Spawn, Fe
 use Rattle.jt_base.specs.declared.operation.Reply.{Reply}
 use Rattle.jt_base.specs.declared.run.Seeds.{Seeds}
 use Rattle.jt_base.specs.Coming.{Next, Needs, Spawns, Over}
-use Rattle.jt_program.specs.Plan.{ProgramPlan}
 use Rattle.jt_meaning.specs.declared.start.Start.{Start}
 use Rattle.jt_meaning.specs.Run.{Run}
 use Rattle.jt_meaning.specs.State.{Out, Gave, Returned, Broke, Continued, Faulted, Asks, Unfit}
@@ -26,18 +25,14 @@ next_of (Continued s) = None
 next_of (Faulted f s) = None
 next_of Unfit = None
 
--- with at most so many turns; nothing where a reply is none that its operation can have, or where
--- replies are left behind the task's end
-abbrev pub next_operation : ProgramPlan → ℕ → List ℕ → Start → List Reply → Option (Next Start)
-next_operation program turns path start replies = next_of (task program turns path start replies)
+-- what comes next in a run for a path, a start and the replies so far; nothing where a reply is none
+-- that its operation can have, or where replies are left behind the task's end
+abbrev pub next_operation : Run → List ℕ → Start → List Reply → Option (Next Start)
+next_operation run path start replies = next_of (task run path start replies)
 
 -- the main task's start: its stream is the seed words
 abbrev pub main_start : Seeds → Start
 main_start seeds = record { code = 0; captured = []; constants = []; home = true; stream = seeds.words; how = Default }
-
--- what comes next for a path, a start and the replies so far
-abbrev pub next_in : Run → List ℕ → Start → List Reply → Option (Next Start)
-next_in run path start replies = next_operation run.program run.limits.turns path start replies
 
 -- an operation that comes once the task has begun; a task is made for the default pool
 abbrev pub IsLater : Op → Type 0

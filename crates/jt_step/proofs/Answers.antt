@@ -12,7 +12,7 @@ use Rattle.jt_program.specs.Plan.{ProgramPlan}
 use Rattle.jt_program.specs.View.{plan_of}
 use Rattle.jt_step.specs.declared.frame.Frame.{Frame}
 use Rattle.jt_step.specs.declared.frame.Frame.TheVariants as frame
-use Rattle.jt_step.specs.declared.machine.Machine.{Machine}
+use Rattle.jt_step.specs.declared.evaluator.Evaluator.{Evaluator}
 use Rattle.jt_step.specs.declared.mode.Mode.{Mode}
 use Rattle.jt_step.specs.declared.mode.Mode.TheVariants as mode
 use Rattle.jt_meaning.specs.declared.start.Start.{Start}
@@ -76,12 +76,12 @@ module _ (program : ProgramPlan) where
   through_asks [] o start s = refl
   through_asks (f ∷ fs) o start s = ap (after program f) (through_asks fs o start s) ∙ after_asks f o start s
 
-  given_at : (m : Machine) (g : Given) (rs : List Reply) → doing program m.frames.items (given_mode g) (state_of m rs) ≡ resume program m.frames.items (answered g (state_of m rs))
+  given_at : (m : Evaluator) (g : Given) (rs : List Reply) → doing program m.frames.items (given_mode g) (state_of m rs) ≡ resume program m.frames.items (answered g (state_of m rs))
   given_at m (state.value v) rs = refl
   given_at m (state.fault f) rs = refl
   given_at m state.unfit rs = sym (ap ended (through_unfit m.frames.items))
 
-  begun_at : (m : Machine) (e : Bor Code) (r : Reply) (rs : List Reply) → at program m (begun_by e r) rs ≡ at program m (mode.Begins e) (r ∷ rs)
+  begun_at : (m : Evaluator) (e : Bor Code) (r : Reply) (rs : List Reply) → at program m (begun_by e r) rs ≡ at program m (mode.Begins e) (r ∷ rs)
   begun_at m e reply.Ok rs = ap (resume program m.frames.items) (sym (goes program (whole (plan_of e.now)) (state_of m rs)))
   begun_at m e (reply.Int i) rs = refl
   begun_at m e (reply.Flag b) rs = refl
@@ -93,7 +93,7 @@ module _ (program : ProgramPlan) where
   begun_at m e reply.NotOwner rs = refl
   begun_at m e reply.NotHeld rs = refl
 
-  ending_at : (m : Machine) (v : Value) (r : Reply) (rs : List Reply) → at program m (over_by r) rs ≡ at program m (mode.Ending v) (r ∷ rs)
+  ending_at : (m : Evaluator) (v : Value) (r : Reply) (rs : List Reply) → at program m (over_by r) rs ≡ at program m (mode.Ending v) (r ∷ rs)
   ending_at m w reply.Ok rs = refl
   ending_at m w (reply.Int i) rs = refl
   ending_at m w (reply.Flag b) rs = refl
@@ -105,7 +105,7 @@ module _ (program : ProgramPlan) where
   ending_at m w reply.NotOwner rs = refl
   ending_at m w reply.NotHeld rs = refl
 
-  failing_at : (m : Machine) (f : Fault) (r : Reply) (rs : List Reply) → at program m (over_by r) rs ≡ at program m (mode.Failing f) (r ∷ rs)
+  failing_at : (m : Evaluator) (f : Fault) (r : Reply) (rs : List Reply) → at program m (over_by r) rs ≡ at program m (mode.Failing f) (r ∷ rs)
   failing_at m f reply.Ok rs = refl
   failing_at m f (reply.Int i) rs = refl
   failing_at m f (reply.Flag b) rs = refl
@@ -117,8 +117,8 @@ module _ (program : ProgramPlan) where
   failing_at m f reply.NotOwner rs = refl
   failing_at m f reply.NotHeld rs = refl
 
-  -- the machine does after a reply what it does before it
-  pub taken_at : (m : Machine) (md : Mode) (r : Reply) (rs : List Reply) → waits md ≡ true → at program m (taken md r) rs ≡ at program m md (r ∷ rs)
+  -- the evaluator does after a reply what it does before it
+  pub taken_at : (m : Evaluator) (md : Mode) (r : Reply) (rs : List Reply) → waits md ≡ true → at program m (taken md r) rs ≡ at program m md (r ∷ rs)
   taken_at m (mode.Begins e) r rs h = begun_at m e r rs
   taken_at m (mode.Waits o start) r rs h = given_at m (given o r) rs
   taken_at m (mode.Ending v) r rs h = ending_at m v r rs
@@ -138,7 +138,7 @@ unused_next : (log : List Note) (used : ℕ) (n : Note) → used < length log �
 unused_next log used n h = rw (add-one, drop-cons log used n)
 
 module _ (program : ProgramPlan) where
-  pub reply_step : (m : Machine) (md md' : Mode) (log : List Note) (used : ℕ) (n : Note) (rs : List Reply) → used < length log → true ≡ waits md → md' ≡ taken md (get_or log used n).reply → at program m md' (unused log (used + 1) ++ rs) ≡ at program m md (unused log used ++ rs)
+  pub reply_step : (m : Evaluator) (md md' : Mode) (log : List Note) (used : ℕ) (n : Note) (rs : List Reply) → used < length log → true ≡ waits md → md' ≡ taken md (get_or log used n).reply → at program m md' (unused log (used + 1) ++ rs) ≡ at program m md (unused log used ++ rs)
   reply_step m md md' log used n rs h w e =
       ap (λ d. at program m d (unused log (used + 1) ++ rs)) e
       ∙ taken_at program m md (get_or log used n).reply (unused log (used + 1) ++ rs) (sym w)

@@ -15,23 +15,23 @@ use Rattle.jt_program.specs.View.{plan_of, plans}
 use Rattle.jt_step.specs.declared.frame.Frame.TheVariants as frame
 use Rattle.jt_step.specs.declared.frame.Loop.{Loop}
 use Rattle.jt_step.specs.declared.frame.Loop.TheVariants as loop
-use Rattle.jt_step.specs.declared.machine.Machine.{Machine}
+use Rattle.jt_step.specs.declared.evaluator.Evaluator.{Evaluator}
 use Rattle.jt_step.specs.declared.mode.Mode.{Mode}
 use Rattle.jt_step.specs.declared.mode.Mode.TheVariants as mode
 use Rattle.jt_step.specs.Agrees.{goes}
 use Rattle.jt_meaning.specs.Meaning.{go, proceed, test, run_all, run_choices, run_connection, whole}
 use Rattle.jt_step.specs.Moves.{Does, turn_mode}
-use Rattle.jt_step.specs.AtOnce.{Gives, asks, truth}
+use Rattle.jt_step.specs.AtOnce.{IsRead, asks, truth}
 use Rattle.jt_meaning.specs.State.{State, Out, Step, Gave, Faulted, bind}
 use Rattle.jt_step.specs.Stack.{after, at, choices_in, does, frames_weight, later_of, mode_weight, plans_weight, resume, state_of, weight}
 use Rattle.jt_step.proofs.Loops.{turn_hands}
 use Rattle.jt_step.proofs.Plans.{arm-of}
 
 -- a step that does the same gives the same
-pub gives_too : {E : Type 0} (r : Result (Option Value) E) (m : Machine) (step step' : ProgramPlan → Step) → ((program : ProgramPlan) (rs : List Reply) → step' program (state_of m rs) ≡ step program (state_of m rs)) → IfOk r (λ o. IfSome o (Gives m step)) → IfOk r (λ o. IfSome o (Gives m step'))
-gives_too (Ok (Some v)) m step step' same gives = λ program rs. same program rs ∙ gives program rs
-gives_too (Ok None) m step step' same gives = gives
-gives_too (Err e) m step step' same gives = gives
+pub read_too : {E : Type 0} (r : Result (Option Value) E) (m : Evaluator) (step step' : ProgramPlan → Step) → ((program : ProgramPlan) (rs : List Reply) → step' program (state_of m rs) ≡ step program (state_of m rs)) → IfOk r (λ o. IfSome o (IsRead m step)) → IfOk r (λ o. IfSome o (IsRead m step'))
+read_too (Ok (Some v)) m step step' same gives = λ program rs. same program rs ∙ gives program rs
+read_too (Ok None) m step step' same gives = gives
+read_too (Err e) m step step' same gives = gives
 
 -- a part and those behind it weigh less than all
 pub first_lighter : (e : Code) (es rest : List Code) → es ≡ e ∷ rest → weight (plan_of e) + plans_weight (plans rest) + 1 ≤ plans_weight (plans es)
@@ -89,19 +89,19 @@ module _ (program : ProgramPlan) where
   pub arm_fails : (a : Arm) (v : Value) (k : Step) (arms rest : List Arm) (s : State) → arms ≡ a ∷ rest → does program (plan_of a.condition) s ≡ Gave v s → None ≡ truth v → Faulted Method s ≡ run_choices program (go program) (choices_in arms) k s
   arm_fails a v k arms rest s is reads p = rw (is, arm-of, reads, tests, ← p)
 
-  pub part_begins : (m m' : Machine) (e : Code) (v : Value) (es rest : List Code) (rs : List Reply) → es ≡ e ∷ rest → m' ≡ m → bind (does program (plan_of e) (state_of m' rs)) (λ w. run_all program (go program) w (plans rest)) ≡ run_all program (go program) v (plans es) (state_of m rs)
+  pub part_begins : (m m' : Evaluator) (e : Code) (v : Value) (es rest : List Code) (rs : List Reply) → es ≡ e ∷ rest → m' ≡ m → bind (does program (plan_of e) (state_of m' rs)) (λ w. run_all program (go program) w (plans rest)) ≡ run_all program (go program) v (plans es) (state_of m rs)
   part_begins m m' e v es rest rs is same = rw (is, same)
 
   -- a part begins with no frame
-  pub does_part : (m : Machine) (e : Bor Code) (step : Step) (most : ℕ) → ((rs : List Reply) → does program (plan_of e.now) (state_of m rs) ≡ step (state_of m rs)) → weight (plan_of e.now) < most → Does program m step most m (mode.Eval e)
+  pub does_part : (m : Evaluator) (e : Bor Code) (step : Step) (most : ℕ) → ((rs : List Reply) → does program (plan_of e.now) (state_of m rs) ≡ step (state_of m rs)) → weight (plan_of e.now) < most → Does program m step most m (mode.Eval e)
   does_part m e step most p w = record {
     same = λ rs. ap (resume program m.frames.items) (p rs);
     less = omega (arith, w);
     turns = refl;
   }
 
-  -- a move of a machine with the same frames and turns does what another step does here
-  pub does_amid : (m0 m m' : Machine) (md : Mode) (step step' : Step) (most most' : ℕ) → m.frames.items ≡ m0.frames.items → m.turns ≡ m0.turns → Does program m step most m' md → ((rs : List Reply) → step (state_of m rs) ≡ step' (state_of m0 rs)) → most ≤ most' → Does program m0 step' most' m' md
+  -- a move of an evaluator with the same frames and turns does what another step does here
+  pub does_amid : (m0 m m' : Evaluator) (md : Mode) (step step' : Step) (most most' : ℕ) → m.frames.items ≡ m0.frames.items → m.turns ≡ m0.turns → Does program m step most m' md → ((rs : List Reply) → step (state_of m rs) ≡ step' (state_of m0 rs)) → most ≤ most' → Does program m0 step' most' m' md
   does_amid m0 m m' md step step' most most' f t h p w = record {
     same = λ rs. h.same rs ∙ ap (λ fs. resume program fs (step (state_of m rs))) f ∙ ap (resume program m0.frames.items) (p rs);
     less = omega (arith, h.less, ap (λ fs. frames_weight fs) f, w);
@@ -109,7 +109,7 @@ module _ (program : ProgramPlan) where
   }
 
   -- a loop whose condition is read once its body has ended
-  pub while_reads : (m : Machine) (l : Loop) (first count : ℕ) (c b : Bor Code) (v : Value) → l ≡ loop.While first count c b → Gives m (λ program. does program (plan_of c.now)) v → (rs : List Reply) → at program m (turn_mode v l) rs ≡ resume program m.frames.items (go program (later_of l) (state_of m rs))
+  pub while_reads : (m : Evaluator) (l : Loop) (first count : ℕ) (c b : Bor Code) (v : Value) → l ≡ loop.While first count c b → IsRead m (λ program. does program (plan_of c.now)) v → (rs : List Reply) → at program m (turn_mode v l) rs ≡ resume program m.frames.items (go program (later_of l) (state_of m rs))
   while_reads m l first count c b v is reads rs = rw is (
       (turn_hands program m first count c b v).same rs
       ∙ ap (λ (o : Out). resume program m.frames.items (after program (frame.Condition first count c b) o)) (sym (reads program rs))

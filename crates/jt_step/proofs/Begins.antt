@@ -12,11 +12,11 @@ use Rattle.jt_program.specs.View.{plan_of}
 use Rattle.jt_step.specs.declared.frame.Frame.TheVariants as frame
 use Rattle.jt_step.specs.declared.frame.Loop.{Loop}
 use Rattle.jt_step.specs.declared.frame.Loop.TheVariants as loop
-use Rattle.jt_step.specs.declared.machine.Machine.{Machine}
+use Rattle.jt_step.specs.declared.evaluator.Evaluator.{Evaluator}
 use Rattle.jt_step.specs.declared.mode.Mode.TheVariants as mode
 use Rattle.jt_meaning.specs.State.{State, Step, Faulted, turn_with, enter_with}
 use Rattle.jt_meaning.specs.Meaning.{ended, go, left, looped, call, variables_of, whole}
-use Rattle.jt_step.specs.Stack.{refusal, rests, Follows, through, resume, does, later_of, again, state_of, begins, has_body, Turns}
+use Rattle.jt_step.specs.Stack.{refusal, rests, Follows, through, resume, does, later_of, again, state_of, begins, has_body, TakesTurn}
 use Rattle.jt_step.specs.Task.{body_in, turned}
 use Rattle.jt_step.specs.Agrees.{goes}
 use Rattle.jt_step.proofs.Resumes.{through_push}
@@ -51,7 +51,7 @@ module _ (program : ProgramPlan) where
   again_turns (loop.While first count c b) s h = turn_goes s.turns (does_turn (loop.While first count c b)) s h
   again_turns (loop.Range first count b i last) s h = turn_goes s.turns (does_turn (loop.Range first count b i last)) s h
 
-  pub loop_begins : (m m' : Machine) (l : Loop) (b : Bor Code) → b.now ≡ (body_in l).now → nat_lt 0 m.turns ≡ true → m'.frames.items ≡ m.frames.items ++ frame.Loop l ∷ [] → ((rs : List Reply) → state_of m' rs ≡ turned l (record (state_of m rs) { turns = m.turns - 1 })) → m'.turns ≡ m.turns - 1 → Turns program m (mode.Again l) m' (mode.Eval b)
+  pub loop_begins : (m m' : Evaluator) (l : Loop) (b : Bor Code) → b.now ≡ (body_in l).now → nat_lt 0 m.turns ≡ true → m'.frames.items ≡ m.frames.items ++ frame.Loop l ∷ [] → ((rs : List Reply) → state_of m' rs ≡ turned l (record (state_of m rs) { turns = m.turns - 1 })) → m'.turns ≡ m.turns - 1 → TakesTurn program m (mode.Again l) m' (mode.Eval b)
   loop_begins m m' l b e h p st u = record {
     same = λ rs.
         ap ended (ap (λ fs. through program fs (does program (plan_of b.now) (state_of m' rs))) p ∙ through_push program m.frames.items (frame.Loop l) _)
@@ -70,7 +70,7 @@ module _ (program : ProgramPlan) where
       ∙ enter_goes s.turns (nat_lt s.open_calls most_calls) k s limits
       ∙ ap (left s.variables s.open_calls) (goes program (whole b.code) (record s { variables = variables_of b vs; turns = s.turns - 1; open_calls = s.open_calls + 1 }))
 
-  pub call_begins : (m m' : Machine) (f : ℕ) (vs : List Value) (b : BodyPlan) (e : Bor Code) → slice_get program.functions f ≡ Some b → plan_of e.now ≡ b.code → begins program m (mode.Enter f vs) ≡ true → m'.frames.items ≡ m.frames.items ++ frame.Call m.variables m.open_calls ∷ [] → ((rs : List Reply) → state_of m' rs ≡ record (state_of m rs) { variables = variables_of b vs; turns = m.turns - 1; open_calls = m.open_calls + 1 }) → m'.turns ≡ m.turns - 1 → Turns program m (mode.Enter f vs) m' (mode.Eval e)
+  pub call_begins : (m m' : Evaluator) (f : ℕ) (vs : List Value) (b : BodyPlan) (e : Bor Code) → slice_get program.functions f ≡ Some b → plan_of e.now ≡ b.code → begins program m (mode.Enter f vs) ≡ true → m'.frames.items ≡ m.frames.items ++ frame.Call m.variables m.open_calls ∷ [] → ((rs : List Reply) → state_of m' rs ≡ record (state_of m rs) { variables = variables_of b vs; turns = m.turns - 1; open_calls = m.open_calls + 1 }) → m'.turns ≡ m.turns - 1 → TakesTurn program m (mode.Enter f vs) m' (mode.Eval e)
   call_begins m m' f vs b e is en h p st u = record {
     same = λ rs.
         ap ended (ap (λ fs. through program fs (does program (plan_of e.now) (state_of m' rs))) p ∙ through_push program m.frames.items (frame.Call m.variables m.open_calls) _)
@@ -91,7 +91,7 @@ module _ (program : ProgramPlan) where
       ap (λ t. enter_with t (nat_lt s.open_calls most_calls) (body_of b vs s) s) (sym e)
       ∙ ap (λ x. enter_with (suc t) x (body_of b vs s) s) (ap (λ y. y && nat_lt s.open_calls most_calls) (sym (lt-ltb 0 (suc t) (omega arith))) ∙ h)
 
-  pub call_refuses : (m : Machine) (f : ℕ) (vs : List Value) → rests program m (mode.Enter f vs) ≡ false → Follows program m (mode.Enter f vs) m (mode.Faulted (refusal (slice_get program.functions f) m.turns))
+  pub call_refuses : (m : Evaluator) (f : ℕ) (vs : List Value) → rests program m (mode.Enter f vs) ≡ false → Follows program m (mode.Enter f vs) m (mode.Faulted (refusal (slice_get program.functions f) m.turns))
   call_refuses m f vs h = record {
     same = λ rs. ap (resume program m.frames.items) (sym (call_refused (slice_get program.functions f) vs (state_of m rs) m.turns refl h));
     less = omega arith;
@@ -106,7 +106,7 @@ module _ (program : ProgramPlan) where
   loop_refused (loop.While first count c b) s h = turn_refused s.turns _ s h
   loop_refused (loop.Range first count b i last) s h = turn_refused s.turns _ s h
 
-  pub loop_refuses : (m : Machine) (l : Loop) → rests program m (mode.Again l) ≡ false → Follows program m (mode.Again l) m (mode.Faulted TurnLimit)
+  pub loop_refuses : (m : Evaluator) (l : Loop) → rests program m (mode.Again l) ≡ false → Follows program m (mode.Again l) m (mode.Faulted TurnLimit)
   loop_refuses m l h = record {
     same = λ rs. ap (resume program m.frames.items) (sym (loop_refused l (state_of m rs) h));
     less = omega arith;

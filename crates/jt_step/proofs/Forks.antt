@@ -4,7 +4,7 @@ use Rattle.std.specs.Prelude.{nat_lt}
 use Rattle.jt_base.specs.declared.operation.Fault.TheVariants.{ForkTooDeep}
 use Rattle.jt_base.specs.Names.{most_indexes}
 use Rattle.jt_program.specs.Plan.{BodyPlan, ProgramPlan}
-use Rattle.jt_step.specs.declared.machine.Machine.{Machine}
+use Rattle.jt_step.specs.declared.evaluator.Evaluator.{Evaluator}
 use Rattle.jt_step.specs.declared.mode.Mode.{Mode}
 use Rattle.jt_meaning.specs.declared.start.Start.{Start}
 use Rattle.jt_meaning.specs.State.{State, Faulted}
@@ -22,7 +22,7 @@ forked s path b body slots awaits e lt =
     ∙ ap (λ x. either x (fork_with (s.path ++ s.spawned ∷ []) awaits (start_in s body slots)) (Faulted ForkTooDeep) s) (sym lt)
 
 module _ (program : ProgramPlan) where
-  pub forks : (m m' : Machine) (md : Mode) (path : List ℕ) (o : Option BodyPlan) (b : BodyPlan) (body : ℕ) (slots : List ℕ) (awaits : Bool) → o ≡ Some b → path ≡ m.path ++ m.spawned ∷ [] → nat_lt (length m.path) most_indexes ≡ true → Does program m (fork_with path awaits (child_start body m.stream (values_taken [] m.variables slots) (values_known [] m.constants))) 2 m' md → Does program m (fork o body slots awaits) 2 m' md
+  pub forks : (m m' : Evaluator) (md : Mode) (path : List ℕ) (o : Option BodyPlan) (b : BodyPlan) (body : ℕ) (slots : List ℕ) (awaits : Bool) → o ≡ Some b → path ≡ m.path ++ m.spawned ∷ [] → nat_lt (length m.path) most_indexes ≡ true → Does program m (fork_with path awaits (child_start body m.stream (values_taken [] m.variables slots) (values_known [] m.constants))) 2 m' md → Does program m (fork o body slots awaits) 2 m' md
   forks m m' md path o b body slots awaits is e lt h = rw is (record {
     same = λ rs. h.same rs ∙ ap (resume program m.frames.items) (forked (state_of m rs) path b body slots awaits e lt);
     less = h.less;

@@ -12,7 +12,7 @@ use Rattle.jt_program.specs.declared.code.Code.{Code}
 use Rattle.jt_program.specs.Plan.{Plan, ProgramPlan}
 use Rattle.jt_program.specs.View.{plan_of, plans}
 use Rattle.jt_base.specs.declared.operation.Reply.{Reply}
-use Rattle.jt_step.specs.declared.machine.Machine.{Machine}
+use Rattle.jt_step.specs.declared.evaluator.Evaluator.{Evaluator}
 use Rattle.jt_meaning.specs.Meaning.{go, run_arguments}
 use Rattle.jt_meaning.specs.Values.{operated, compared_by}
 use Rattle.jt_meaning.specs.State.{State, Gave, Faulted}
@@ -47,6 +47,6 @@ module _ (program : ProgramPlan) where
   pub argument_read : (f : Callee) (e : Code) (v : Value) (vs : List Value) (es rest : List Code) (s : State) → es ≡ e ∷ rest → does program (plan_of e) s ≡ Gave v s → run_arguments program (go program) f (vs ++ v ∷ []) (plans rest) s ≡ run_arguments program (go program) f vs (plans es) s
   argument_read f e v vs es rest s is reads = rw (is, reads)
 
-  -- what is read in one machine is read in an equal one
-  pub reads_at : (m0 m : Machine) (e : Plan) (v : Value) → m ≡ m0 → ((rs : List Reply) → does program e (state_of m rs) ≡ Gave v (state_of m rs)) → (rs : List Reply) → does program e (state_of m0 rs) ≡ Gave v (state_of m0 rs)
+  -- what is read in one evaluator is read in an equal one
+  pub reads_at : (m0 m : Evaluator) (e : Plan) (v : Value) → m ≡ m0 → ((rs : List Reply) → does program e (state_of m rs) ≡ Gave v (state_of m rs)) → (rs : List Reply) → does program e (state_of m0 rs) ≡ Gave v (state_of m0 rs)
   reads_at m0 m e v k h rs = rw (← k) (h rs)

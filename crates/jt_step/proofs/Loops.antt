@@ -13,7 +13,7 @@ use Rattle.jt_step.specs.declared.frame.Frame.{Frame}
 use Rattle.jt_step.specs.declared.frame.Frame.TheVariants as frame
 use Rattle.jt_step.specs.declared.frame.Loop.{Loop}
 use Rattle.jt_step.specs.declared.frame.Loop.TheVariants as loop
-use Rattle.jt_step.specs.declared.machine.Machine.{Machine}
+use Rattle.jt_step.specs.declared.evaluator.Evaluator.{Evaluator}
 use Rattle.jt_step.specs.declared.mode.Mode.TheVariants as mode
 use Rattle.jt_meaning.specs.Meaning.{go, whole, range, either, turns_from}
 use Rattle.jt_step.specs.Moves.{range_mode, turn_mode, bounds_mode}
@@ -49,7 +49,7 @@ module _ (program : ProgramPlan) where
   range_on fs l first count body i last s e = rw e (range_from fs (int_lt i last) first count body (i +ℤ pos 1) last s (below_next i last) ∙ ap (resume program fs) (sym (goes program (range first count (plan_of body.now) (i +ℤ pos 1) last) s)))
 
   -- a loop whose condition has its value
-  pub turn_hands : (m : Machine) (first count : ℕ) (c b : Bor Code) (v : Value) → Hands program m (frame.Condition first count c b) (Gave v) m (turn_mode v (loop.While first count c b))
+  pub turn_hands : (m : Evaluator) (first count : ℕ) (c b : Bor Code) (v : Value) → Hands program m (frame.Condition first count c b) (Gave v) m (turn_mode v (loop.While first count c b))
   turn_hands m first count c b (Int n) = record { same = λ rs. refl; less = omega arith; turns = refl }
   turn_hands m first count c b (Flag true) = record { same = λ rs. refl; less = omega arith; turns = refl }
   turn_hands m first count c b (Flag false) = record { same = λ rs. refl; less = omega arith; turns = refl }
@@ -57,11 +57,11 @@ module _ (program : ProgramPlan) where
   turn_hands m first count c b (Task path) = record { same = λ rs. refl; less = omega arith; turns = refl }
   turn_hands m first count c b (Object kind name) = record { same = λ rs. refl; less = omega arith; turns = refl }
 
-  no_bounds : (m : Machine) (first count : ℕ) (low v : Value) (b : Bor Code) → bounds_mode first count b low v ≡ mode.Faulted Method → ((s : State) → Faulted Method s ≡ after program (frame.High first count low b) (Gave v s)) → Hands program m (frame.High first count low b) (Gave v) m (bounds_mode first count b low v)
+  no_bounds : (m : Evaluator) (first count : ℕ) (low v : Value) (b : Bor Code) → bounds_mode first count b low v ≡ mode.Faulted Method → ((s : State) → Faulted Method s ≡ after program (frame.High first count low b) (Gave v s)) → Hands program m (frame.High first count low b) (Gave v) m (bounds_mode first count b low v)
   no_bounds m first count low v b e p = rw e (gives_fault program m (frame.High first count low b) (Gave v) Method p)
 
   -- a loop over numbers whose upper bound has its value
-  pub bounds_hands : (m : Machine) (first count : ℕ) (low v : Value) (b : Bor Code) → Hands program m (frame.High first count low b) (Gave v) m (bounds_mode first count b low v)
+  pub bounds_hands : (m : Evaluator) (first count : ℕ) (low v : Value) (b : Bor Code) → Hands program m (frame.High first count low b) (Gave v) m (bounds_mode first count b low v)
   bounds_hands m first count (Int i) (Int j) b = record {
     same = λ rs. range_from m.frames.items (int_le i j) first count b i j (state_of m rs) refl;
     less = omega (arith, range_light (int_le i j) (loop.Range first count b i j));

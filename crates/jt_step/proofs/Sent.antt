@@ -40,7 +40,7 @@ use Rattle.jt_meaning.proofs.start.Start.TheSendSync as start
 use Rattle.jt_step.specs.contracts.frame.Loop as loop
 use Rattle.jt_step.specs.contracts.frame.Frame as frame
 use Rattle.jt_step.specs.contracts.mode.Mode as mode
-use Rattle.jt_step.specs.contracts.machine.Machine as machine
+use Rattle.jt_step.specs.contracts.evaluator.Evaluator as evaluator
 use Rattle.jt_step.specs.contracts.task.TaskState as state
 use Rattle.jt_step.specs.contracts.task.TaskRun as run
 use Rattle.jt_step.specs.contracts.task.TaskRun.TheInside as inside
@@ -182,9 +182,9 @@ frame_send a =
       ),
     )
 
-machine_send : (a : NamedLft) → IsSend (machine.the_row a)
-machine_send a =
-    declared_send (machine.the_type a) (
+evaluator_send : (a : NamedLft) → IsSend (evaluator.the_row a)
+evaluator_send a =
+    declared_send (evaluator.the_type a) (
       Vec-send _ (frame_send a),
       (
         path.the_send,
@@ -212,7 +212,7 @@ state_send a =
               start.the_send,
               (
                 pool.the_send,
-                (search (option.the_send, sendable) depth 20, (Vec-send _ note.the_send, (size_send, (machine_send a, (mode_send a, (search sendable, (send, tt))))))),
+                (search (option.the_send, sendable) depth 20, (Vec-send _ note.the_send, (size_send, (evaluator_send a, (mode_send a, (search sendable, (send, tt))))))),
               ),
             ),
           ),

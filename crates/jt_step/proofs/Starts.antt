@@ -1,4 +1,4 @@
--- A machine at a task's beginning.
+-- An evaluator at a task's beginning.
 use Rattle.std.proofs.Common.{◌≡◌, ℕ, List, [], ◌∷◌, ◌++◌, length, map, refl, sym, ap, ◌∙◌, Bor, Option, Some, None, false, nat_eq}
 use Rattle.std.specs.Prelude.{cond, slice_get}
 use Rattle.std.proofs.lemmas.Bool.{ne_eqb}
@@ -13,9 +13,9 @@ use Rattle.jt_base.specs.declared.run.Sizes.{Sizes}
 use Rattle.jt_base.specs.Jobs.{note_reply}
 use Rattle.jt_laws.specs.Tasks.{is_main}
 use Rattle.jt_program.specs.declared.code.Code.{Code}
-use Rattle.jt_program.specs.Plan.{BodyPlan, ProgramPlan}
+use Rattle.jt_program.specs.Plan.{BodyPlan}
 use Rattle.jt_program.specs.View.{plan_of}
-use Rattle.jt_step.specs.declared.machine.Machine.{Machine}
+use Rattle.jt_step.specs.declared.evaluator.Evaluator.{Evaluator}
 use Rattle.jt_step.specs.declared.mode.Mode.TheVariants as mode
 use Rattle.jt_meaning.specs.declared.start.Start.{Start}
 use Rattle.jt_meaning.specs.State.{State, ask, bind}
@@ -44,13 +44,13 @@ pub new_seen : (run : Run) (path : List ℕ) (start : Start) (parent pool : Pool
 new_seen run path start parent pool bound log room taken p b l r t =
     λ i. record { run = run; path = path; start = start; seat = record { pool = p i; bound = b i }; log = l i; room = r i; taken = t i; failed = false }
 
-pub starts : (p : ProgramPlan) (m : Machine) (turns : ℕ) (path : List ℕ) (start : Start) (b : BodyPlan) (e : Bor Code) (log : List Note) (rs : List Reply) → slice_get p.tasks start.code ≡ Some b → plan_of e.now ≡ b.code → m.frames.items ≡ [] → m.variables ≡ variables_of b start.captured → ((rs : List Reply) → record (state_of m rs) { variables = [] } ≡ beginning p turns path start rs) → log ≡ [] → at p m (mode.Begins e) (unused log 0 ++ rs) ≡ task p turns path start (map note_reply log ++ rs)
-starts p m turns path start b e log rs is en fs vs st l =
-    let s0 : State = record (beginning p turns path start rs) { variables = variables_of b start.captured } in
+pub starts : (run : Run) (m : Evaluator) (path : List ℕ) (start : Start) (b : BodyPlan) (e : Bor Code) (log : List Note) (rs : List Reply) → slice_get run.program.tasks start.code ≡ Some b → plan_of e.now ≡ b.code → m.frames.items ≡ [] → m.variables ≡ variables_of b start.captured → ((rs : List Reply) → record (state_of m rs) { variables = [] } ≡ beginning run.program run.limits.turns path start rs) → log ≡ [] → at run.program m (mode.Begins e) (unused log 0 ++ rs) ≡ task run path start (map note_reply log ++ rs)
+starts run m path start b e log rs is en fs vs st l =
+    let s0 : State = record (beginning run.program run.limits.turns path start rs) { variables = variables_of b start.captured } in
     let here : state_of m rs ≡ s0 = λ i. record (st rs i) { variables = vs i } in
-    ap (λ log. at p m (mode.Begins e) (unused log 0 ++ rs)) l
-    ∙ ap (λ fs. doing p fs (mode.Begins e) (state_of m rs)) fs
-    ∙ ap (λ s. doing p [] (mode.Begins e) s) here
-    ∙ ap (λ x. bind (ask Begin None s0) (λ v s. ended (go p (whole x) s))) en
-    ∙ ap (λ o. task_of p o start.captured (beginning p turns path start rs)) (sym is)
-    ∙ ap (λ log. task p turns path start (map note_reply log ++ rs)) (sym l)
+    ap (λ log. at run.program m (mode.Begins e) (unused log 0 ++ rs)) l
+    ∙ ap (λ fs. doing run.program fs (mode.Begins e) (state_of m rs)) fs
+    ∙ ap (λ s. doing run.program [] (mode.Begins e) s) here
+    ∙ ap (λ x. bind (ask Begin None s0) (λ v s. ended (go run.program (whole x) s))) en
+    ∙ ap (λ o. task_of run.program o start.captured (beginning run.program run.limits.turns path start rs)) (sym is)
+    ∙ ap (λ log. task run path start (map note_reply log ++ rs)) (sym l)

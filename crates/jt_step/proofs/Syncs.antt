@@ -18,7 +18,7 @@ use Rattle.jt_step.specs.declared.frame.Exit.TheVariants as exit
 use Rattle.jt_step.specs.declared.frame.Frame.{Frame}
 use Rattle.jt_step.specs.declared.frame.Frame.TheVariants as frame
 use Rattle.jt_step.specs.declared.frame.Waits.{Waits}
-use Rattle.jt_step.specs.declared.machine.Machine.{Machine}
+use Rattle.jt_step.specs.declared.evaluator.Evaluator.{Evaluator}
 use Rattle.jt_step.specs.declared.mode.Mode.{Mode}
 use Rattle.jt_step.specs.declared.mode.Mode.TheVariants as mode
 use Rattle.jt_meaning.specs.State.{State, ask}
@@ -46,17 +46,17 @@ drop_next : {X : Type 0} (xs : List X) (n : ℕ) (x : X) → slice_get xs n ≡ 
 drop_next xs n x h = drop_some xs n x h ∙ ap (λ m. x ∷ drop m xs) (sym (add-one n))
 
 module _ (program : ProgramPlan) where
-  ends_part : (m : Machine) (x : Exit) (v : Value) (f : Option Fault) → Does program m (unless_failed (exits x v) f) 2 m (left_mode x v f)
+  ends_part : (m : Evaluator) (x : Exit) (v : Value) (f : Option Fault) → Does program m (unless_failed (exits x v) f) 2 m (left_mode x v f)
   ends_part m x v (Some f) = record { same = λ rs. refl; less = omega arith; turns = refl }
   ends_part m exit.Value v None = record { same = λ rs. refl; less = omega arith; turns = refl }
   ends_part m exit.Return v None = record { same = λ rs. refl; less = omega arith; turns = refl }
 
   -- no task is left
-  pub waits_end : (m : Machine) (w : Waits) (md : Mode) → md ≡ left_mode w.exit w.value w.fault → slice_get w.paths w.next ≡ None → Does program m (wait_all (drop w.next w.paths) w.fault (unless_failed (exits w.exit w.value))) 2 m md
+  pub waits_end : (m : Evaluator) (w : Waits) (md : Mode) → md ≡ left_mode w.exit w.value w.fault → slice_get w.paths w.next ≡ None → Does program m (wait_all (drop w.next w.paths) w.fault (unless_failed (exits w.exit w.value))) 2 m md
   waits_end m w md e h = rw (e, drop_none w.paths w.next h) (ends_part m w.exit w.value w.fault)
 
   -- the next task is waited for
-  pub waits_next : (m m' : Machine) (w : Waits) (path : List ℕ) (md : Mode) → md ≡ mode.Waits (op.Wait path) None → m'.frames.items ≡ m.frames.items ++ frame.Waiting (record w { next = w.next + 1 }) ∷ [] → ((rs : List Reply) → state_of m' rs ≡ state_of m rs) → m'.turns ≡ m.turns → slice_get w.paths w.next ≡ Some path → Does program m (wait_all (drop w.next w.paths) w.fault (unless_failed (exits w.exit w.value))) 2 m' md
+  pub waits_next : (m m' : Evaluator) (w : Waits) (path : List ℕ) (md : Mode) → md ≡ mode.Waits (op.Wait path) None → m'.frames.items ≡ m.frames.items ++ frame.Waiting (record w { next = w.next + 1 }) ∷ [] → ((rs : List Reply) → state_of m' rs ≡ state_of m rs) → m'.turns ≡ m.turns → slice_get w.paths w.next ≡ Some path → Does program m (wait_all (drop w.next w.paths) w.fault (unless_failed (exits w.exit w.value))) 2 m' md
   waits_next m m' w path md e p st t h = rw (e, drop_next w.paths w.next path h) (record {
     same = λ rs. rw (p, through_push) (ap (λ s. resume program m.frames.items (noticed w.fault (λ f. wait_all (drop (w.next + 1) w.paths) f (unless_failed (exits w.exit w.value))) (ask (op.Wait path) None s))) (st rs));
     less = rw (p, weight_push) (omega arith);
@@ -68,7 +68,7 @@ module _ (program : ProgramPlan) where
   synced_waits outer exit.Return v s = refl
 
   -- a part has ended: the tasks that were made in it are waited for
-  pub ends_sync : (m m1 m' : Machine) (md : Mode) (outer paths : List (List ℕ)) (x : Exit) (v : Value) → Does program m1 (wait_all paths None (unless_failed (exits x v))) 2 m' md → paths ≡ m.awaited → m1.frames.items ≡ m.frames.items → ((rs : List Reply) → state_of m1 rs ≡ awaiting outer (state_of m rs)) → m1.turns ≡ m.turns → Does program m (λ s. synced outer (exits x v s)) 3 m' md
+  pub ends_sync : (m m1 m' : Evaluator) (md : Mode) (outer paths : List (List ℕ)) (x : Exit) (v : Value) → Does program m1 (wait_all paths None (unless_failed (exits x v))) 2 m' md → paths ≡ m.awaited → m1.frames.items ≡ m.frames.items → ((rs : List Reply) → state_of m1 rs ≡ awaiting outer (state_of m rs)) → m1.turns ≡ m.turns → Does program m (λ s. synced outer (exits x v s)) 3 m' md
   ends_sync m m1 m' md outer paths x v h a p st t = record {
     same = λ rs.
         h.same rs
@@ -81,7 +81,7 @@ module _ (program : ProgramPlan) where
   }
 
   -- a part begins, in which no task was made yet
-  pub begins_sync : (m m' : Machine) (e : Bor Code) → m'.frames.items ≡ m.frames.items ++ frame.Sync m.awaited ∷ [] → ((rs : List Reply) → state_of m' rs ≡ awaiting [] (state_of m rs)) → m'.turns ≡ m.turns → Does program m (λ s. synced s.awaited (does program (plan_of e.now) (awaiting [] s))) (weight (plan_of e.now) + 4) m' (mode.Eval e)
+  pub begins_sync : (m m' : Evaluator) (e : Bor Code) → m'.frames.items ≡ m.frames.items ++ frame.Sync m.awaited ∷ [] → ((rs : List Reply) → state_of m' rs ≡ awaiting [] (state_of m rs)) → m'.turns ≡ m.turns → Does program m (λ s. synced s.awaited (does program (plan_of e.now) (awaiting [] s))) (weight (plan_of e.now) + 4) m' (mode.Eval e)
   begins_sync m m' e p st t = record {
     same = λ rs. rw (p, through_push, st rs);
     less = rw (p, weight_push) (omega arith);
@@ -111,7 +111,7 @@ module _ (program : ProgramPlan) where
   built_in_light f vs = valued_light (applied f vs)
 
   -- the last argument has its value
-  pub calls_built_in : (m : Machine) (c : Callee) (f : BuiltIn) (vs : List Value) (es : List Code) (md : Mode) → c ≡ callee.BuiltIn f → es ≡ [] → md ≡ built_in_mode f vs → Does program m (run_arguments program (go program) c vs (plans es)) (plans_weight (plans es) + 1) m md
+  pub calls_built_in : (m : Evaluator) (c : Callee) (f : BuiltIn) (vs : List Value) (es : List Code) (md : Mode) → c ≡ callee.BuiltIn f → es ≡ [] → md ≡ built_in_mode f vs → Does program m (run_arguments program (go program) c vs (plans es)) (plans_weight (plans es) + 1) m md
   calls_built_in m c f vs es md is none e = rw (is, none, e) (record {
     same = λ rs. built_in_does m.frames.items f vs (state_of m rs);
     less = omega (arith, built_in_light f vs);

@@ -1,4 +1,4 @@
--- What a machine that stops tells.
+-- What an evaluator that stops tells.
 use Rattle.std.proofs.Common.{◌≡◌, ℕ, zero, suc, ◌+◌, ◌-◌, ◌<◌, ◌≤◌, List, [], ◌∷◌, ◌++◌, length, map, drop, refl, sym, ap, ◌∙◌, subst, arith, Option, Some, None, Bool, true, false, ◌&&◌}
 use Rattle.std.specs.Prelude.{nat_lt, slice_get}
 use Rattle.std.proofs.Math.Seq.{drop-length}
@@ -17,7 +17,7 @@ use Rattle.jt_step.specs.declared.frame.Exit.{Exit}
 use Rattle.jt_step.specs.declared.frame.Exit.TheVariants as exit
 use Rattle.jt_step.specs.declared.frame.Loop.{Loop}
 use Rattle.jt_step.specs.declared.frame.Loop.TheVariants as loop
-use Rattle.jt_step.specs.declared.machine.Machine.{Machine}
+use Rattle.jt_step.specs.declared.evaluator.Evaluator.{Evaluator}
 use Rattle.jt_step.specs.declared.mode.Mode.{Mode}
 use Rattle.jt_step.specs.declared.mode.Mode.TheVariants as mode
 use Rattle.jt_meaning.specs.declared.start.Start.{Start}
@@ -26,11 +26,11 @@ use Rattle.jt_meaning.specs.State.{Out, State, Step, Asks, turns_of, turn_with, 
 use Rattle.jt_meaning.specs.Values.{operated, unary_of, compared_by, shown, shown_with}
 use Rattle.jt_meaning.specs.Meaning.{ended, gives, go, looped, call, variables_of, unless_failed, wait_all, whole}
 use Rattle.jt_meaning.specs.Next.{next_of, over_with}
-use Rattle.jt_step.specs.Stack.{after, exits, through, resume, state_of, at, does, again, later_of, calls, has_body, operands_in, comparisons_in, choices_in, pieces_in, waits, begins, rests, unused, Runs}
+use Rattle.jt_step.specs.Stack.{after, exits, through, resume, state_of, at, does, again, later_of, calls, has_body, operands_in, comparisons_in, choices_in, pieces_in, waits, begins, rests, unused, RunsOn}
 use Rattle.jt_step.specs.Task.{mode_tells, body_in, turned}
-use Rattle.jt_step.specs.Tasks.{Task, Says, told, out_of, coming}
+use Rattle.jt_step.specs.Tasks.{Task, Says, said, out_of, coming}
 use Rattle.jt_step.proofs.Answers.{through_asks}
-use Rattle.jt_step.specs.Turns.{bind_falls, looped_falls, left_falls, gives_falls, noticed_falls, waits_fall, unless_falls, synced_falls, turn_le, test_falls, holds_falls, bounds_falls, from_falls, run_falls, operands_falls, comparisons_falls, connection_falls, choices_falls, all_falls, arguments_falls, pieces_falls, go_falls, ended_falls}
+use Rattle.jt_step.specs.Falls.{bind_falls, looped_falls, left_falls, gives_falls, noticed_falls, waits_fall, unless_falls, synced_falls, turn_le, test_falls, holds_falls, bounds_falls, from_falls, run_falls, operands_falls, comparisons_falls, connection_falls, choices_falls, all_falls, arguments_falls, pieces_falls, go_falls, ended_falls}
 
 -- ---- turns that are left
 
@@ -108,7 +108,7 @@ module _ (program : ProgramPlan) where
   call_less (Some b) vs s h = enter_less s.turns (nat_lt s.open_calls most_calls) _ s (λ s2. left_falls (go program (whole b.code) (record s2 { variables = variables_of b vs })) _ _ s2.turns ((go_falls program).by (whole b.code) (record s2 { variables = variables_of b vs }))) h
 
   -- where a turn begins next, fewer turns are left at the end
-  begun_falls : (m : Machine) (md : Mode) (rs : List Reply) → begins program m md ≡ true → turns_of (at program m md rs) < m.turns
+  begun_falls : (m : Evaluator) (md : Mode) (rs : List Reply) → begins program m md ≡ true → turns_of (at program m md rs) < m.turns
   begun_falls m (mode.Enter f vs) rs h = omega (arith, resume_falls m.frames.items (calls program f vs (state_of m rs)), call_less (slice_get program.functions f) vs (state_of m rs) h)
   begun_falls m (mode.Again l) rs h = omega (arith, resume_falls m.frames.items (again program l (state_of m rs)), again_less l (state_of m rs) h)
   begun_falls m (mode.Begins e) rs h = absurd (cc)
@@ -124,14 +124,14 @@ module _ (program : ProgramPlan) where
   begun_falls m mode.Over rs h = absurd (cc)
   begun_falls m mode.Unfit rs h = absurd (cc)
 
--- ---- what is told
+-- ---- what is said
 
 module _ (program : ProgramPlan) where
-  asks_tells : (m : Machine) (o : Op) (start : Option Start) → at program m (mode.Waits o start) [] ≡ Asks o start (state_of m [])
+  asks_tells : (m : Evaluator) (o : Op) (start : Option Start) → at program m (mode.Waits o start) [] ≡ Asks o start (state_of m [])
   asks_tells m o start = ap ended (through_asks program m.frames.items o start (state_of m []))
 
   -- an operation that waits comes next
-  waits_tell : (m : Machine) (md : Mode) → waits md ≡ true → (mode_tells md ≡ next_of (at program m md [])) × (turns_of (at program m md []) ≡ m.turns)
+  waits_tell : (m : Evaluator) (md : Mode) → waits md ≡ true → (mode_tells md ≡ next_of (at program m md [])) × (turns_of (at program m md []) ≡ m.turns)
   waits_tell m (mode.Waits o None) h = (sym (ap next_of (asks_tells m o None)), ap turns_of (asks_tells m o None))
   waits_tell m (mode.Waits o (Some start)) h = (sym (ap next_of (asks_tells m o (Some start))), ap turns_of (asks_tells m o (Some start)))
   waits_tell m (mode.Begins e) h = (refl, refl)
@@ -148,7 +148,7 @@ module _ (program : ProgramPlan) where
   waits_tell m mode.Over h = absurd (cc)
   waits_tell m mode.Unfit h = absurd (cc)
 
-  waiting_tells : (m : Machine) (md : Mode) (rs : List Reply) (n : Next Start) → waits md ≡ true → rs ≡ [] → next_of (at program m md rs) ≡ Some n → (mode_tells md ≡ Some n) × (turns_of (at program m md rs) ≡ m.turns)
+  waiting_tells : (m : Evaluator) (md : Mode) (rs : List Reply) (n : Next Start) → waits md ≡ true → rs ≡ [] → next_of (at program m md rs) ≡ Some n → (mode_tells md ≡ Some n) × (turns_of (at program m md rs) ≡ m.turns)
   waiting_tells m md rs n w z e =
       let t = waits_tell m md w in
       (t.0 ∙ ap (λ rs. next_of (at program m md rs)) (sym z) ∙ e, ap (λ rs. turns_of (at program m md rs)) z ∙ t.1)
@@ -157,8 +157,8 @@ module _ (program : ProgramPlan) where
   over_tells [] n e = e
   over_tells (r ∷ rs) n e = cc
 
-  -- a machine at rest, where no turn begins, tells what comes next
-  settled_tells : (m : Machine) (md : Mode) (rs : List Reply) (n : Next Start) → rests program m md ≡ true → begins program m md ≡ false → (waits md ≡ true → rs ≡ []) → next_of (at program m md rs) ≡ Some n → (mode_tells md ≡ Some n) × (turns_of (at program m md rs) ≡ m.turns)
+  -- an evaluator at rest, where no turn begins, tells what comes next
+  settled_tells : (m : Evaluator) (md : Mode) (rs : List Reply) (n : Next Start) → rests program m md ≡ true → begins program m md ≡ false → (waits md ≡ true → rs ≡ []) → next_of (at program m md rs) ≡ Some n → (mode_tells md ≡ Some n) × (turns_of (at program m md rs) ≡ m.turns)
   settled_tells m (mode.Waits o start) rs n r b w e = waiting_tells m (mode.Waits o start) rs n refl (w refl) e
   settled_tells m (mode.Begins c) rs n r b w e = waiting_tells m (mode.Begins c) rs n refl (w refl) e
   settled_tells m (mode.Ending v) rs n r b w e = waiting_tells m (mode.Ending v) rs n refl (w refl) e
@@ -174,7 +174,7 @@ module _ (program : ProgramPlan) where
   settled_tells m mode.Continued rs n r b w e = absurd (cc)
   settled_tells m (mode.Faulted f) rs n r b w e = absurd (cc)
 
-  begun_tells : (m : Machine) (md : Mode) → begins program m md ≡ true → mode_tells md ≡ None
+  begun_tells : (m : Evaluator) (md : Mode) → begins program m md ≡ true → mode_tells md ≡ None
   begun_tells m (mode.Enter f vs) h = refl
   begun_tells m (mode.Again l) h = refl
   begun_tells m (mode.Begins e) h = cc
@@ -210,8 +210,8 @@ unused_all : (log : List Note) (used : ℕ) → used ≡ length log → unused l
 unused_all log used e = ap (λ n. map note_reply (drop n log) ++ []) e ∙ ap (λ l. map note_reply l ++ []) (drop-length log)
 
 module _ (program : ProgramPlan) where
-  -- a run of the machine tells what the meaning tells
-  pub run_says : (m m' : Machine) (md md' : Mode) (t : Task) (used used' turns : ℕ) (a : Advance) → m.turns ≤ t.run.limits.turns → t.taken ≡ t.run.limits.turns - m.turns → at program m md (unused t.log used ++ []) ≡ out_of t → Runs program t.log turns m used md m' used' md' → told a ≡ mode_tells md' → Says t turns a (t.run.limits.turns - m'.turns)
+  -- a run of the evaluator tells what the meaning tells
+  pub run_says : (m m' : Evaluator) (md md' : Mode) (t : Task) (used used' turns : ℕ) (a : Advance) → m.turns ≤ t.run.limits.turns → t.taken ≡ t.run.limits.turns - m.turns → at program m md (unused t.log used ++ []) ≡ out_of t → RunsOn program t.log turns m used md m' used' md' → said a ≡ mode_tells md' → Says t turns a (t.run.limits.turns - m'.turns)
   run_says m m' md md' t used used' turns a few k same r y = go_on (begins program m' md') refl
     where
       here : at program m' md' (unused t.log used' ++ []) ≡ out_of t
@@ -230,14 +230,14 @@ module _ (program : ProgramPlan) where
         stops = λ x c le. let s = settled_tells program m' md' (unused t.log used' ++ []) x r.rested e (λ w. unused_all t.log used' (r.all e w)) (ap next_of here ∙ c) in let u : turns_of (out_of t) ≡ m'.turns = ap turns_of (sym here) ∙ s.1 in (y ∙ s.0, omega arith);
       }
 
-  -- an operation that is told comes next
-  pub told_comes : (m m' : Machine) (md md' : Mode) (t : Task) (used used' turns : ℕ) (a : Advance) (o : Op) → at program m md (unused t.log used ++ []) ≡ out_of t → Runs program t.log turns m used md m' used' md' → told a ≡ mode_tells md' → op_of (told a) ≡ Some o → coming t ≡ told a
-  told_comes m m' md md' t used used' turns a o same r y h = comes (begins program m' md') refl
+  -- an operation that is said comes next
+  pub said_comes : (m m' : Evaluator) (md md' : Mode) (t : Task) (used used' turns : ℕ) (a : Advance) (o : Op) → at program m md (unused t.log used ++ []) ≡ out_of t → RunsOn program t.log turns m used md m' used' md' → said a ≡ mode_tells md' → op_of (said a) ≡ Some o → coming t ≡ said a
+  said_comes m m' md md' t used used' turns a o same r y h = comes (begins program m' md') refl
     where
       w : waits md' ≡ true
       w = op_waits program md' o (ap op_of (sym y) ∙ h)
 
-      comes : (b : Bool) → begins program m' md' ≡ b → coming t ≡ told a
+      comes : (b : Bool) → begins program m' md' ≡ b → coming t ≡ said a
       comes true e = let n : None ≡ Some o = ap op_of (sym (begun_tells program m' md' e)) ∙ ap op_of (sym y) ∙ h in cc
       comes false e =
           ap next_of (sym (r.same [] ∙ same))

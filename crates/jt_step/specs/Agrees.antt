@@ -13,7 +13,7 @@ use Rattle.jt_program.specs.Plan as plan
 use Rattle.jt_meaning.specs.State.{State, Out, Gave, Returned, Broke, Continued, Faulted, Asks, Unfit, Step, turns_of, bind, turn_with, enter_with, renew, renew_with}
 use Rattle.jt_meaning.specs.Values.{operated, compared_by, shown, shown_with, text_of}
 use Rattle.jt_meaning.specs.Meaning.{gives, test, proceed, holds, looped, left, variables_of, awaiting, synced, Later, whole, range, either, bounds, turns_from, call, call_of, run, run_operands, run_comparisons, run_connection, run_choices, run_all, run_arguments, run_pieces, later, meaning, go}
-use Rattle.jt_step.specs.Turns.{Falls, gives_falls, run_falls, meaning_falls}
+use Rattle.jt_step.specs.Falls.{TurnsFall, gives_falls, run_falls, meaning_falls}
 
 -- ---- what parts are put together by
 
@@ -92,7 +92,7 @@ from_agrees n lower lower' first count b body body' a g c i last s h =
     (turn_agrees s.turns n _ _ s h (λ s g2. looped_agrees _ _ _ _ s.turns (c (renew_with first count (Int i) s) (omega arith)) (g (renew_with first count (Int i) s))
     (λ s g3. a.by (range first count b (i +ℤ pos 1) last) s (omega arith)))) refl
 
-module _ (program : ProgramPlan) (n : ℕ) (lower lower' : Later → Step) (f : Falls lower) (a : Agree n lower lower') where
+module _ (program : ProgramPlan) (n : ℕ) (lower lower' : Later → Step) (f : TurnsFall lower) (a : Agree n lower lower') where
   falls : (e : Plan) (s : State) → turns_of (run program lower e s) ≤ s.turns
   falls = run_falls program lower f
 

@@ -1,4 +1,4 @@
--- What a machine finds at once, with no frame and no move.
+-- What an evaluator finds at once, with no frame and no move.
 use Rattle.std.specs.Prelude.{◌≡◌, List, Option, Some, None, Bool, not}
 use Rattle.jt_base.specs.declared.operation.Reply.{Reply}
 use Rattle.jt_base.specs.declared.value.Value.{Value}
@@ -9,14 +9,14 @@ use Rattle.jt_meaning.specs.State.{Gave, Step}
 use Rattle.jt_meaning.specs.Values.{differ}
 use Rattle.jt_step.specs.Stack.{state_of}
 use Rattle.jt_step.specs.Moves.{asking}
-use Rattle.jt_step.specs.declared.machine.Machine.{Machine}
+use Rattle.jt_step.specs.declared.evaluator.Evaluator.{Evaluator}
 
--- where this machine stands, a step gives a value and changes nothing
-abbrev pub Gives : Machine → (ProgramPlan → Step) → Value → Type 0
-Gives m step v = (program : ProgramPlan) (rs : List Reply) → step program (state_of m rs) ≡ Gave v (state_of m rs)
+-- where this evaluator stands, a step gives a value and changes nothing
+abbrev pub IsRead : Evaluator → (ProgramPlan → Step) → Value → Type 0
+IsRead m step v = (program : ProgramPlan) (rs : List Reply) → step program (state_of m rs) ≡ Gave v (state_of m rs)
 
--- a step that gives this value makes the other machine of this one, with the same frames and turns
-pub record Did (m : Machine) (step : ProgramPlan → Step) (v : Value) (m' : Machine) : Type 0 where
+-- a step that gives this value makes the other evaluator of this one, with the same frames and turns
+pub record Did (m : Evaluator) (step : ProgramPlan → Step) (v : Value) (m' : Evaluator) : Type 0 where
   pub same : (program : ProgramPlan) (rs : List Reply) → step program (state_of m rs) ≡ Gave v (state_of m' rs)
   pub frames : m'.frames.items ≡ m.frames.items
   pub turns : m'.turns ≡ m.turns

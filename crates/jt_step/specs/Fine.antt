@@ -30,7 +30,7 @@ use Rattle.jt_meaning.specs.State.{State, Out, Gave, Returned, Broke, Continued,
 use Rattle.jt_meaning.specs.Values.{Valued, operated, unary_of, applied, compared_by, shown, shown_with, text_of}
 use Rattle.jt_meaning.specs.Meaning.{gives, known, test, proceed, holds, looped, left, variables_of, print_text, values_taken, values_known, child_start, await, fork_with, fork, first_fault, noticed, wait_all, unless_failed, awaiting, synced, Later, whole, range, either, bounds, turns_from, call, call_built_in, call_of, run, run_operands, run_comparisons, run_connection, run_choices, run_all, run_arguments, run_pieces, later, go}
 use Rattle.jt_meaning.specs.Next.{IsLater}
-use Rattle.jt_step.specs.Turns.{Falls, gives_falls, run_falls, go_falls}
+use Rattle.jt_step.specs.Falls.{TurnsFall, gives_falls, run_falls, go_falls}
 use Rattle.jt_step.specs.Agrees.{goes}
 
 -- what is known of how far a part gets: the task's path; the most replies that are left; if none is,
@@ -246,7 +246,7 @@ module _ (program : ProgramPlan) (w : Reach) where
       (turn_fine s.turns m _ s g h (λ s g2 h2. looped_fine (body (renew_with first count (Int i) s)) _ s.turns (f (renew_with first count (Int i) s)) (c (renew_with first count (Int i) s) (omega arith) h2)
       (λ s g3. a.by (range first count b (i +ℤ pos 1) last) s (omega arith)))) h
 
-  module _ (m : ℕ) (lower : Later → Step) (f : Falls lower) (a : Fines m lower) where
+  module _ (m : ℕ) (lower : Later → Step) (f : TurnsFall lower) (a : Fines m lower) where
     falls : (e : Plan) (s : State) → turns_of (run program lower e s) ≤ s.turns
     falls = run_falls program lower f
 

@@ -15,6 +15,7 @@ use Rattle.jt_meaning.specs.declared.start.Start.{Start}
 use Rattle.jt_meaning.specs.State as state
 use Rattle.jt_meaning.specs.State.{State, Out, Gave, Returned, Broke, Continued, Faulted, Asks, Unfit, bind, Given, given, answered, ask_with}
 use Rattle.jt_meaning.specs.Meaning.{variables_of, whole, go, ended, task_of, beginning, task}
+use Rattle.jt_meaning.specs.Run.{Run}
 use Rattle.jt_meaning.specs.Next.{next_of, over_with, next_operation, IsLater}
 use Rattle.jt_step.specs.Tasks.{ComesAfter, IsTaskOp}
 use Rattle.jt_step.specs.Fine.{Reach, Fine, go_fine}
@@ -23,16 +24,16 @@ use Rattle.jt_step.specs.Spawned.{Closed, OneMore, Made, made_by, one_more, clos
 -- ---- the first operation
 
 -- a task begins with Begin
-pub first_operation : (p : ProgramPlan) (turns : ℕ) (path : List ℕ) (start : Start) (n : Next Start) → next_operation p turns path start [] ≡ Some n → n ≡ Needs Begin
-first_operation p turns path start n e = by_body (slice_get p.tasks start.code) e
+pub first_operation : (run : Run) (path : List ℕ) (start : Start) (n : Next Start) → next_operation run path start [] ≡ Some n → n ≡ Needs Begin
+first_operation run path start n e = by_body (slice_get run.program.tasks start.code) e
   where
-    by_body : (o : Option BodyPlan) → next_of (task_of p o start.captured (beginning p turns path start [])) ≡ Some n → n ≡ Needs Begin
+    by_body : (o : Option BodyPlan) → next_of (task_of run.program o start.captured (beginning run.program run.limits.turns path start [])) ≡ Some n → n ≡ Needs Begin
     by_body None h = cc
     by_body (Some b) h = cc
 
 -- and it does begin where it has a body
-pub begins : (p : ProgramPlan) (turns : ℕ) (path : List ℕ) (start : Start) (b : BodyPlan) → slice_get p.tasks start.code ≡ Some b → next_operation p turns path start [] ≡ Some (Needs Begin)
-begins p turns path start b e = ap (λ o. next_of (task_of p o start.captured (beginning p turns path start []))) e
+pub begins : (run : Run) (path : List ℕ) (start : Start) (b : BodyPlan) → slice_get run.program.tasks start.code ≡ Some b → next_operation run path start [] ≡ Some (Needs Begin)
+begins run path start b e = ap (λ o. next_of (task_of run.program o start.captured (beginning run.program run.limits.turns path start []))) e
 
 -- ---- the others
 
@@ -94,13 +95,13 @@ later_is (Faulted f s) op h e = absurd (cc)
 later_is Unfit op h e = absurd (cc)
 
 -- once it has begun, it prints, acts on tasks, ends or fails
-pub later_operation : (p : ProgramPlan) (turns : ℕ) (path : List ℕ) (start : Start) (r : Reply) (rs : List Reply) (op : Op) → op_of (next_operation p turns path start (r ∷ rs)) ≡ Some op → IsLater op
-later_operation p turns path start r rs op e =
-    later_is (task p turns path start (r ∷ rs)) op (task_later p (slice_get p.tasks start.code) start.captured (beginning p turns path start []) r rs) e
+pub later_operation : (run : Run) (path : List ℕ) (start : Start) (r : Reply) (rs : List Reply) (op : Op) → op_of (next_operation run path start (r ∷ rs)) ≡ Some op → IsLater op
+later_operation run path start r rs op e =
+    later_is (task run path start (r ∷ rs)) op (task_later run.program (slice_get run.program.tasks start.code) start.captured (beginning run.program run.limits.turns path start []) r rs) e
 
 -- before, it begins
-pub task_operation : (p : ProgramPlan) (turns : ℕ) (path : List ℕ) (start : Start) (rs : List Reply) (op : Op) → op_of (next_operation p turns path start rs) ≡ Some op → IsTaskOp op
-task_operation p turns path start [] op e = inl (by_next (next_operation p turns path start []) (first_operation p turns path start) e)
+pub task_operation : (run : Run) (path : List ℕ) (start : Start) (rs : List Reply) (op : Op) → op_of (next_operation run path start rs) ≡ Some op → IsTaskOp op
+task_operation run path start [] op e = inl (by_next (next_operation run path start []) (first_operation run path start) e)
   where
     begin_is : (n : Next Start) → n ≡ Needs Begin → op_of (Some n) ≡ Some op → op ≡ Begin
     begin_is n h e = cc
@@ -108,7 +109,7 @@ task_operation p turns path start [] op e = inl (by_next (next_operation p turns
     by_next : (o : Option (Next Start)) → ((n : Next Start) → o ≡ Some n → n ≡ Needs Begin) → op_of o ≡ Some op → op ≡ Begin
     by_next None f e = cc
     by_next (Some n) f e = begin_is n (f n refl) e
-task_operation p turns path start (r ∷ rs) op e = inr (later_operation p turns path start r rs op e)
+task_operation run path start (r ∷ rs) op e = inr (later_operation run path start r rs op e)
 
 -- ---- the making of tasks
 
@@ -156,25 +157,25 @@ module _ (p : ProgramPlan) (path : List ℕ) (k : ℕ) where
   spawns_made (Faulted f s) op child m e = absurd (cc)
   spawns_made Unfit op child m e = absurd (cc)
 
-module _ (p : ProgramPlan) (turns : ℕ) (path : List ℕ) (start : Start) (rs : List Reply) (op : Op) where
+module _ (run : Run) (path : List ℕ) (start : Start) (rs : List Reply) (op : Op) where
   -- a spawn, and no other operation, comes with a child's start
-  pub needs_no_spawn : next_operation p turns path start rs ≡ Some (Needs op) → is_spawn op ≡ false
-  needs_no_spawn e = needs_plain p path (spawned_by (next_operation p turns path start) rs) (task p turns path start rs) op (made_by p turns path start rs) e
+  pub needs_no_spawn : next_operation run path start rs ≡ Some (Needs op) → is_spawn op ≡ false
+  needs_no_spawn e = needs_plain run.program path (spawned_by (next_operation run path start) rs) (task run path start rs) op (made_by run path start rs) e
 
   module _ (child : Start) where
-    spawned : next_operation p turns path start rs ≡ Some (Spawns op child) → MakesChild p path (spawned_by (next_operation p turns path start) rs) op child
-    spawned e = spawns_made p path (spawned_by (next_operation p turns path start) rs) (task p turns path start rs) op child (made_by p turns path start rs) e
+    spawned : next_operation run path start rs ≡ Some (Spawns op child) → MakesChild run.program path (spawned_by (next_operation run path start) rs) op child
+    spawned e = spawns_made run.program path (spawned_by (next_operation run path start) rs) (task run path start rs) op child (made_by run path start rs) e
 
     -- the k-th spawn, from 0, names the task's path followed by k
-    pub spawns_next_child : next_operation p turns path start rs ≡ Some (Spawns op child) → SpawnsChild path (spawned_by (next_operation p turns path start) rs) op
+    pub spawns_next_child : next_operation run path start rs ≡ Some (Spawns op child) → SpawnsChild path (spawned_by (next_operation run path start) rs) op
     spawns_next_child e = (child.how, (spawned e).names)
 
     -- the child's start says how it is made
-    pub spawned_how : next_operation p turns path start rs ≡ Some (Spawns op child) → (q : List ℕ) × (op ≡ Spawn q child.how)
-    spawned_how e = (path ++ spawned_by (next_operation p turns path start) rs ∷ [], (spawned e).names)
+    pub spawned_how : next_operation run path start rs ≡ Some (Spawns op child) → (q : List ℕ) × (op ≡ Spawn q child.how)
+    spawned_how e = (path ++ spawned_by (next_operation run path start) rs ∷ [], (spawned e).names)
 
     -- and it has a body
-    pub spawned_body : next_operation p turns path start rs ≡ Some (Spawns op child) → child.code < length p.tasks
+    pub spawned_body : next_operation run path start rs ≡ Some (Spawns op child) → child.code < length run.program.tasks
     spawned_body e = (spawned e).body
 
 -- ---- one reply more
@@ -213,14 +214,14 @@ closed_none (Faulted f s) h = refl
 closed_none (Asks op start s) h = absurd h
 closed_none Unfit h = refl
 
-module _ (p : ProgramPlan) (turns : ℕ) (path : List ℕ) (start : Start) (rs : List Reply) (op : Op) (r : Reply) where
+module _ (run : Run) (path : List ℕ) (start : Start) (rs : List Reply) (op : Op) (r : Reply) where
   -- after each reply that an operation can have, a further operation comes; after the last one nothing
-  pub goes_on : op_of (next_operation p turns path start rs) ≡ Some op → can_reply op r ≡ true → ComesAfter (ends op) (next_operation p turns path start (rs ++ r ∷ []))
-  goes_on e c = goes_from p r (task p turns path start rs) (task p turns path start (rs ++ r ∷ [])) op (one_more p turns path start rs r) e c
+  pub goes_on : op_of (next_operation run path start rs) ≡ Some op → can_reply op r ≡ true → ComesAfter (ends op) (next_operation run path start (rs ++ r ∷ []))
+  goes_on e c = goes_from run.program r (task run path start rs) (task run path start (rs ++ r ∷ [])) op (one_more run path start rs r) e c
 
   -- whatever is replied to the last one, no operation comes behind it
-  pub ends_it : (more : List Reply) → op_of (next_operation p turns path start rs) ≡ Some op → ends op ≡ true → op_of (next_operation p turns path start (rs ++ r ∷ more)) ≡ None
+  pub ends_it : (more : List Reply) → op_of (next_operation run path start rs) ≡ Some op → ends op ≡ true → op_of (next_operation run path start (rs ++ r ∷ more)) ≡ None
   ends_it more e c =
-      subst (λ l. op_of (next_operation p turns path start l) ≡ None) (append_assoc rs (r ∷ []) more)
-      (closed_none (task p turns path start ((rs ++ r ∷ []) ++ more)) (closed_from p turns path start (rs ++ r ∷ []) more
-      (closes_from p r (task p turns path start rs) (task p turns path start (rs ++ r ∷ [])) op (one_more p turns path start rs r) e c)))
+      subst (λ l. op_of (next_operation run path start l) ≡ None) (append_assoc rs (r ∷ []) more)
+      (closed_none (task run path start ((rs ++ r ∷ []) ++ more)) (closed_from run path start (rs ++ r ∷ []) more
+      (closes_from run.program r (task run path start rs) (task run path start (rs ++ r ∷ [])) op (one_more run path start rs r) e c)))

@@ -5,7 +5,7 @@ pub mod AtOnce
 pub mod Task
 pub mod Codes
 pub mod Serial
-pub mod Turns
+pub mod Falls
 pub mod Agrees
 pub mod Fine
 pub mod More

@@ -26,7 +26,7 @@ use Rattle.jt_meaning.specs.State as state
 use Rattle.jt_meaning.specs.State.{State, Out, Gave, Returned, Broke, Continued, Faulted, Asks, Unfit, Step, turns_of, bind, Given, given, answered, ask, ask_with, turn, turn_with, enter, enter_with, renew, renew_with}
 use Rattle.jt_meaning.specs.Values.{Valued, operated, unary_of, applied, compared_by, shown, shown_with, text_of}
 use Rattle.jt_meaning.specs.Meaning.{gives, known, test, proceed, holds, looped, left, variables_of, print_text, values_taken, values_known, child_start, await, fork_with, fork, first_fault, noticed, wait_all, unless_failed, awaiting, synced, Later, whole, range, either, bounds, turns_from, call, call_built_in, call_of, run, run_operands, run_comparisons, run_connection, run_choices, run_all, run_arguments, run_pieces, later, go}
-use Rattle.jt_step.specs.Turns.{gives_falls, run_falls, go_falls}
+use Rattle.jt_step.specs.Falls.{gives_falls, run_falls, go_falls}
 use Rattle.jt_step.specs.Agrees.{goes}
 use Rattle.jt_step.specs.Fine.{Reach, Left, Fine, bind_fine, looped_fine, left_fine, answered_fine, noticed_fine, waits_fine, unless_fine, synced_fine, gives_fine, test_fine, holds_fine, bounds_fine, go_fine, does_fine, does_operands_fine, does_comparisons_fine, does_connection_fine, does_choices_fine, does_all_fine, does_arguments_fine, does_pieces_fine, does_from_fine, does_turn_fine}
 

@@ -1,4 +1,4 @@
--- What single moves of a machine come to.
+-- What single moves of an evaluator come to.
 use Rattle.std.specs.Prelude.{◌≡◌, ℕ, ◌+◌, ◌<◌, List, [], ◌∷◌, Option, Some, None, Ok, Err, Bool, true, false, int_le}
 use denote.Bor.{Bor}
 use Rattle.jt_base.specs.declared.value.Value.{Value}
@@ -23,7 +23,7 @@ use Rattle.jt_step.specs.declared.frame.Exit.TheVariants as exit
 use Rattle.jt_step.specs.Stack.{at, pieces_in, resume, state_of, work, frames_weight}
 use Rattle.jt_step.specs.declared.frame.Loop.{Loop}
 use Rattle.jt_step.specs.declared.frame.Loop.TheVariants as loop
-use Rattle.jt_step.specs.declared.machine.Machine.{Machine}
+use Rattle.jt_step.specs.declared.evaluator.Evaluator.{Evaluator}
 use Rattle.jt_step.specs.declared.mode.Mode.{Mode}
 use Rattle.jt_step.specs.declared.mode.Mode.TheVariants as mode
 
@@ -79,8 +79,8 @@ left_mode x v (Some f) = mode.Faulted f
 left_mode exit.Value v None = mode.Gave v
 left_mode exit.Return v None = mode.Returned v
 
--- one machine does this in the place of the other, with less work than so much and its frames
-pub record Does (program : ProgramPlan) (m : Machine) (step : Step) (most : ℕ) (m' : Machine) (md : Mode) : Type 0 where
+-- one evaluator does this in the place of the other, with less work than so much and its frames
+pub record Does (program : ProgramPlan) (m : Evaluator) (step : Step) (most : ℕ) (m' : Evaluator) (md : Mode) : Type 0 where
   pub same : (rs : List Reply) → at program m' md rs ≡ resume program m.frames.items (step (state_of m rs))
   pub less : work m' md < most + frames_weight m.frames.items
   pub turns : m'.turns ≡ m.turns

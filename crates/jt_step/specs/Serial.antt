@@ -18,7 +18,7 @@ use Rattle.jt_program.specs.Plan.{Plan, Plans, Operands, Comparisons, Choices, P
 use Rattle.jt_program.specs.Plan as plan
 use Rattle.jt_meaning.specs.declared.start.Start.{Start}
 use Rattle.jt_meaning.specs.Run.{Run}
-use Rattle.jt_meaning.specs.Next.{main_start, next_in}
+use Rattle.jt_meaning.specs.Next.{main_start, next_operation}
 
 -- ---- fork-join programs
 
@@ -177,7 +177,7 @@ serial_next go path start replies s (Some (Spawns op child)) = serial_spawned (g
 -- at most so many operations follow one another
 abbrev pub serial_task : ℕ → Run → List ℕ → Start → List Reply → Serial → Option Done
 serial_task zero run path start replies s = None
-serial_task (suc n) run path start replies s = serial_next (serial_task n run) path start replies s (next_in run path start replies)
+serial_task (suc n) run path start replies s = serial_next (serial_task n run) path start replies s (next_operation run path start replies)
 
 -- the main task's last operation and the lines, in at most so many operations on each way
 abbrev pub serial_run : ℕ → Run → Seeds → Option Done

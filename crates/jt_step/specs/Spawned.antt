@@ -18,6 +18,7 @@ use Rattle.jt_meaning.specs.declared.start.Start.{Start}
 use Rattle.jt_meaning.specs.State as state
 use Rattle.jt_meaning.specs.State.{State, Out, Gave, Returned, Broke, Continued, Faulted, Asks, Unfit, bind, Given, given, answered, ask, ask_with}
 use Rattle.jt_meaning.specs.Meaning.{variables_of, whole, go, ended, task_of, beginning, task}
+use Rattle.jt_meaning.specs.Run.{Run}
 use Rattle.jt_meaning.specs.Next.{next_of, next_operation}
 use Rattle.jt_step.specs.Tasks.{ComesAfter}
 use Rattle.jt_step.specs.Fine.{Reach, Left, AsksFor, Fine, go_fine}
@@ -208,30 +209,30 @@ module _ (program : ProgramPlan) where
 
 -- ---- from a task's beginning
 
-module _ (program : ProgramPlan) (turns : ℕ) (path : List ℕ) (start : Start) where
+module _ (run : Run) (path : List ℕ) (start : Start) where
   abbrev outcome : List Reply → Out
-  outcome rs = task program turns path start rs
+  outcome rs = task run path start rs
 
-  pub one_more : (rs : List Reply) (r : Reply) → OneMore program r (outcome rs) (outcome (rs ++ r ∷ []))
-  one_more rs r = task_more program r (slice_get program.tasks start.code) start.captured (beginning program turns path start rs)
+  pub one_more : (rs : List Reply) (r : Reply) → OneMore run.program r (outcome rs) (outcome (rs ++ r ∷ []))
+  one_more rs r = task_more run.program r (slice_get run.program.tasks start.code) start.captured (beginning run.program run.limits.turns path start rs)
 
-  made_first : (o : Option BodyPlan) → Made program path 0 (task_of program o start.captured (beginning program turns path start []))
+  made_first : (o : Option BodyPlan) → Made run.program path 0 (task_of run.program o start.captured (beginning run.program run.limits.turns path start []))
   made_first None = (true, tt)
   made_first (Some b) = (true, ((refl, λ z. refl), refl))
 
-  made_from : (before rs : List Reply) (n : ℕ) → Made program path n (outcome before) → Made program path (n + spawned_from (next_operation program turns path start) before rs) (outcome (before ++ rs))
-  made_from before [] n m = subst (λ l. Made program path (n + 0) (outcome l)) (sym (append-nil before)) (subst (λ k. Made program path k (outcome before)) (omega arith) m)
+  made_from : (before rs : List Reply) (n : ℕ) → Made run.program path n (outcome before) → Made run.program path (n + spawned_from (next_operation run path start) before rs) (outcome (before ++ rs))
+  made_from before [] n m = subst (λ l. Made run.program path (n + 0) (outcome l)) (sym (append-nil before)) (subst (λ k. Made run.program path k (outcome before)) (omega arith) m)
   made_from before (r ∷ rs) n m =
-      let one : ℕ = one_spawn (next_operation program turns path start before) in
-      let rest : ℕ = spawned_from (next_operation program turns path start) (before ++ r ∷ []) rs in
-      let here = made_from (before ++ r ∷ []) rs (n + one) (made_more program path r n (outcome before) (outcome (before ++ r ∷ [])) m (one_more before r)) in
-      subst (λ k. Made program path k (outcome (before ++ r ∷ rs))) (omega arith) (subst (λ l. Made program path (n + one + rest) (outcome l)) (append_assoc before (r ∷ []) rs) here)
+      let one : ℕ = one_spawn (next_operation run path start before) in
+      let rest : ℕ = spawned_from (next_operation run path start) (before ++ r ∷ []) rs in
+      let here = made_from (before ++ r ∷ []) rs (n + one) (made_more run.program path r n (outcome before) (outcome (before ++ r ∷ [])) m (one_more before r)) in
+      subst (λ k. Made run.program path k (outcome (before ++ r ∷ rs))) (omega arith) (subst (λ l. Made run.program path (n + one + rest) (outcome l)) (append_assoc before (r ∷ []) rs) here)
 
-  pub made_by : (rs : List Reply) → Made program path (spawned_by (next_operation program turns path start) rs) (outcome rs)
-  made_by rs = subst (λ k. Made program path k (outcome rs)) (omega arith) (made_from [] rs 0 (made_first (slice_get program.tasks start.code)))
+  pub made_by : (rs : List Reply) → Made run.program path (spawned_by (next_operation run path start) rs) (outcome rs)
+  made_by rs = subst (λ k. Made run.program path k (outcome rs)) (omega arith) (made_from [] rs 0 (made_first (slice_get run.program.tasks start.code)))
 
   -- what is closed stays so
-  closed_more : (r : Reply) (o o' : Out) → Closed o → OneMore program r o o' → Closed o'
+  closed_more : (r : Reply) (o o' : Out) → Closed o → OneMore run.program r o o' → Closed o'
   closed_more r (Gave v s) o' h a = a
   closed_more r (Returned v s) o' h a = a
   closed_more r (Broke s) o' h a = a

@@ -29,12 +29,12 @@ use Rattle.jt_step.specs.declared.frame.Exit.{Exit}
 use Rattle.jt_step.specs.declared.frame.Exit.TheVariants as exit
 use Rattle.jt_step.specs.declared.frame.Loop.{Loop}
 use Rattle.jt_step.specs.declared.frame.Loop.TheVariants as loop
-use Rattle.jt_step.specs.declared.machine.Machine.{Machine}
+use Rattle.jt_step.specs.declared.evaluator.Evaluator.{Evaluator}
 use Rattle.jt_step.specs.declared.mode.Mode.{Mode}
 use Rattle.jt_step.specs.declared.mode.Mode.TheVariants as mode
 
--- the state of a machine before these replies
-abbrev pub state_of : Machine → List Reply → State
+-- the state of an evaluator before these replies
+abbrev pub state_of : Evaluator → List Reply → State
 state_of m rs = record {
   path = m.path;
   variables = m.variables;
@@ -140,7 +140,7 @@ module _ (program : ProgramPlan) where
   doing fs mode.Unfit s = Unfit
 
   -- what is left to do, before these replies
-  abbrev pub at : Machine → Mode → List Reply → Out
+  abbrev pub at : Evaluator → Mode → List Reply → Out
   at m md rs = doing m.frames.items md (state_of m rs)
 
 -- ---- how much is left to do before the next turn
@@ -237,23 +237,23 @@ mode_weight (mode.Failing f) = 0
 mode_weight mode.Over = 0
 mode_weight mode.Unfit = 0
 
-abbrev pub work : Machine → Mode → ℕ
+abbrev pub work : Evaluator → Mode → ℕ
 work m md = mode_weight md + frames_weight m.frames.items
 
--- ---- where a machine stands
+-- ---- where an evaluator stands
 
 abbrev pub has_body : Option BodyPlan → Bool
 has_body None = false
 has_body (Some b) = true
 
 -- a turn begins next
-abbrev pub begins : ProgramPlan → Machine → Mode → Bool
+abbrev pub begins : ProgramPlan → Evaluator → Mode → Bool
 begins program m (mode.Enter f vs) = has_body (slice_get program.functions f) && (nat_lt 0 m.turns && nat_lt m.open_calls most_calls)
 begins program m (mode.Again l) = nat_lt 0 m.turns
 begins program m _ = false
 
 -- nothing moves but by a reply or by a turn
-abbrev pub rests : ProgramPlan → Machine → Mode → Bool
+abbrev pub rests : ProgramPlan → Evaluator → Mode → Bool
 rests program m (mode.Begins e) = true
 rests program m (mode.Waits o start) = true
 rests program m (mode.Ending v) = true
@@ -280,25 +280,25 @@ waits _ = false
 
 -- ---- what moves keep
 
--- one machine does what the other does, with less work
-pub record Follows (program : ProgramPlan) (m : Machine) (md : Mode) (m' : Machine) (md' : Mode) : Type 0 where
+-- one evaluator does what the other does, with less work
+pub record Follows (program : ProgramPlan) (m : Evaluator) (md : Mode) (m' : Evaluator) (md' : Mode) : Type 0 where
   pub same : (rs : List Reply) → at program m' md' rs ≡ at program m md rs
   pub less : work m' md' < work m md
   pub turns : m'.turns ≡ m.turns
 
--- one machine does what the other does once this frame has had the end of its part
-pub record Hands (program : ProgramPlan) (m : Machine) (f : Frame) (o : Step) (m' : Machine) (md' : Mode) : Type 0 where
+-- one evaluator does what the other does once this frame has had the end of its part
+pub record Hands (program : ProgramPlan) (m : Evaluator) (f : Frame) (o : Step) (m' : Evaluator) (md' : Mode) : Type 0 where
   pub same : (rs : List Reply) → at program m' md' rs ≡ resume program m.frames.items (after program f (o (state_of m rs)))
   pub less : work m' md' < 1 + frame_weight f + frames_weight m.frames.items
   pub turns : m'.turns ≡ m.turns
 
 -- the same after one turn
-pub record Turns (program : ProgramPlan) (m : Machine) (md : Mode) (m' : Machine) (md' : Mode) : Type 0 where
+pub record TakesTurn (program : ProgramPlan) (m : Evaluator) (md : Mode) (m' : Evaluator) (md' : Mode) : Type 0 where
   pub same : (rs : List Reply) → at program m' md' rs ≡ at program m md rs
   pub turns : m'.turns + 1 ≡ m.turns
 
 -- the same, as far as it goes without a turn or a reply
-pub record Settles (program : ProgramPlan) (m : Machine) (md : Mode) (m' : Machine) (md' : Mode) : Type 0 where
+pub record Settles (program : ProgramPlan) (m : Evaluator) (md : Mode) (m' : Evaluator) (md' : Mode) : Type 0 where
   pub same : (rs : List Reply) → at program m' md' rs ≡ at program m md rs
   pub turns : m'.turns ≡ m.turns
   pub rested : rests program m' md' ≡ true
@@ -331,7 +331,7 @@ abbrev pub unused : List Note → ℕ → List Reply
 unused log used = map note_reply (drop used log)
 
 -- the same after at most so many turns, and as far as it goes with these replies
-pub record Runs (program : ProgramPlan) (log : List Note) (turns : ℕ) (m : Machine) (used : ℕ) (md : Mode) (m' : Machine) (used' : ℕ) (md' : Mode) : Type 0 where
+pub record RunsOn (program : ProgramPlan) (log : List Note) (turns : ℕ) (m : Evaluator) (used : ℕ) (md : Mode) (m' : Evaluator) (used' : ℕ) (md' : Mode) : Type 0 where
   pub same : (rs : List Reply) → at program m' md' (unused log used' ++ rs) ≡ at program m md (unused log used ++ rs)
   pub within : used' ≤ length log
   pub rested : rests program m' md' ≡ true

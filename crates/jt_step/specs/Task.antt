@@ -15,6 +15,7 @@ use Rattle.jt_step.specs.declared.mode.Mode.{Mode}
 use Rattle.jt_step.specs.declared.mode.Mode.TheVariants as mode
 use Rattle.jt_meaning.specs.declared.start.Start.{Start}
 use Rattle.jt_step.specs.declared.task.TaskState.{TaskState}
+use Rattle.jt_meaning.specs.Run.{Run}
 use Rattle.jt_meaning.specs.State.{State, renew, renew_with}
 use Rattle.jt_meaning.specs.Meaning.{task}
 use Rattle.jt_step.specs.Stack.{at, unused}
@@ -44,20 +45,24 @@ mode_tells (mode.Failing f) = Some (next.Needs (op.Fail f))
 mode_tells mode.Over = Some next.Over
 mode_tells _ = None
 
+-- its run
+abbrev pub run_of : TaskState → Run
+run_of t = record { program = program_plan t.program.now; sizes = t.sizes; limits = t.limits }
+
 abbrev pub seen : TaskState → Task
 seen t = record {
-  run = record { program = program_plan t.program.now; sizes = t.sizes; limits = t.limits };
+  run = run_of t;
   path = t.path;
   start = t.start;
   seat = record { pool = t.pool; bound = t.bound };
   log = t.log.items;
   room = vec_capacity t.log - length t.log.items;
-  taken = t.limits.turns - t.machine.turns;
+  taken = t.limits.turns - t.evaluator.turns;
   failed = t.failed;
 }
 
--- the machine is where the meaning is after the notes that it has had
+-- the evaluator is where the meaning is after the notes that it has had
 pub record Holds (t : TaskState) : Type 0 where
-  pub same : t.failed ≡ false → (rs : List Reply) → at (program_plan t.program.now) t.machine t.mode (unused t.log.items t.used ++ rs) ≡ task (program_plan t.program.now) t.limits.turns t.path t.start (map note_reply t.log.items ++ rs)
+  pub same : t.failed ≡ false → (rs : List Reply) → at (program_plan t.program.now) t.evaluator t.mode (unused t.log.items t.used ++ rs) ≡ task (run_of t) t.path t.start (map note_reply t.log.items ++ rs)
   pub within : t.used ≤ length t.log.items
-  pub few : t.failed ≡ false → t.machine.turns ≤ t.limits.turns
+  pub few : t.failed ≡ false → t.evaluator.turns ≤ t.limits.turns

@@ -22,7 +22,7 @@ use Rattle.jt_step.specs.declared.task.Advance.TheVariants.{More, Needs, Spawns,
 use Rattle.jt_meaning.specs.State.{Out, turns_of}
 use Rattle.jt_meaning.specs.Meaning.{task}
 use Rattle.jt_meaning.specs.Run.{Run}
-use Rattle.jt_meaning.specs.Next.{next_of, next_in, IsLater}
+use Rattle.jt_meaning.specs.Next.{next_of, next_operation, IsLater}
 
 -- the run, the task's path, start and seat, its notes so far and how many more it has room for, the
 -- turns that it has taken, and whether memory was refused in an advance
@@ -65,7 +65,7 @@ new_task run path start parent = record {
 
 -- what comes of the task after its notes
 abbrev pub out_of : Task → Out
-out_of t = task t.run.program t.run.limits.turns t.path t.start (map note_reply t.log)
+out_of t = task t.run t.path t.start (map note_reply t.log)
 
 -- what comes next for it
 abbrev pub coming : Task → Option (Next Start)
@@ -76,17 +76,17 @@ abbrev pub needed : Task → ℕ
 needed t = t.run.limits.turns - turns_of (out_of t)
 
 -- what an answer says of what comes next
-abbrev pub told : Advance → Option (Next Start)
-told More = None
-told (Needs op) = Some (next.Needs op)
-told (Spawns op start) = Some (next.Spawns op start)
-told Over = Some next.Over
+abbrev pub said : Advance → Option (Next Start)
+said More = None
+said (Needs op) = Some (next.Needs op)
+said (Spawns op start) = Some (next.Spawns op start)
+said Over = Some next.Over
 
 -- after at most so many turns: what comes next; or `More`, and all these turns were taken, where more
 -- turns begin before it
 pub record Says (t : Task) (turns : ℕ) (a : Advance) (taken : ℕ) : Type 0 where
-  pub more : (n : Next Start) → coming t ≡ Some n → t.taken + turns < needed t → (told a ≡ None) × (taken ≡ t.taken + turns)
-  pub stops : (n : Next Start) → coming t ≡ Some n → needed t ≤ t.taken + turns → (told a ≡ Some n) × (taken ≡ needed t)
+  pub more : (n : Next Start) → coming t ≡ Some n → t.taken + turns < needed t → (said a ≡ None) × (taken ≡ t.taken + turns)
+  pub stops : (n : Next Start) → coming t ≡ Some n → needed t ≤ t.taken + turns → (said a ≡ Some n) × (taken ≡ needed t)
 
 -- an advance changes nothing but the turns that were taken
 pub record Advances (old : Task) (turns : ℕ) (a : Advance) (new : Task) : Type 0 where
@@ -95,7 +95,7 @@ pub record Advances (old : Task) (turns : ℕ) (a : Advance) (new : Task) : Type
 
 -- what comes next after one reply more
 abbrev pub coming_with : Task → Reply → Option (Next Start)
-coming_with t r = next_in t.run t.path t.start (map note_reply t.log ++ r ∷ [])
+coming_with t r = next_operation t.run t.path t.start (map note_reply t.log ++ r ∷ [])
 
 -- what comes after an operation's reply: nothing after the end of the task, else a further operation
 abbrev pub ComesAfter : Bool → Option (Next Start) → Type 0
@@ -104,7 +104,7 @@ ComesAfter false n = (op : Op) × (next.op_of n ≡ Some op)
 
 -- what comes after each reply that the needed operation can have
 abbrev pub GoesOn : Task → Advance → Type 0
-GoesOn t a = (op : Op) (r : Reply) → next.op_of (told a) ≡ Some op → can_reply op r ≡ true → ComesAfter (ends op) (coming_with t r)
+GoesOn t a = (op : Op) (r : Reply) → next.op_of (said a) ≡ Some op → can_reply op r ≡ true → ComesAfter (ends op) (coming_with t r)
 
 -- an operation that comes is Begin, or one that comes once the task has begun
 abbrev pub IsTaskOp : Op → Type 0
@@ -113,6 +113,6 @@ IsTaskOp op = (op ≡ Begin) ⊎ IsLater op
 -- what an advance may ask: an operation on tasks or a print; and a task that it makes has a body, and is
 -- made as its start says
 pub record AsksWell (t : Task) (a : Advance) : Type 0 where
-  pub asks : (op : Op) → next.op_of (told a) ≡ Some op → IsTaskOp op
-  pub body : (op : Op) (start : Start) → told a ≡ Some (next.Spawns op start) → start.code < length t.run.program.tasks
-  pub how : (op : Op) (start : Start) → told a ≡ Some (next.Spawns op start) → (path : List ℕ) × (op ≡ Spawn path start.how)
+  pub asks : (op : Op) → next.op_of (said a) ≡ Some op → IsTaskOp op
+  pub body : (op : Op) (start : Start) → said a ≡ Some (next.Spawns op start) → start.code < length t.run.program.tasks
+  pub how : (op : Op) (start : Start) → said a ≡ Some (next.Spawns op start) → (path : List ℕ) × (op ≡ Spawn path start.how)

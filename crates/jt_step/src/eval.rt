@@ -1,4 +1,4 @@
-//! How a machine begins a part.
+//! How an evaluator begins a part.
 
 ghost use Rattle.std.specs.Prelude.{◌≡◌, ◌+◌, IfOk, slice_get};
 ghost use Rattle.jt_program.specs.Plan.{ProgramPlan};
@@ -7,9 +7,9 @@ ghost use Rattle.jt_step.specs.Moves.{Does, known_mode};
 ghost use Rattle.jt_meaning.specs.State.{State};
 ghost use Rattle.jt_step.specs.Stack.{Follows, after, does, frame_weight, weight};
 
+use crate::evaluator::Evaluator;
 use crate::frame::Frame;
 use crate::line::Line;
-use crate::machine::Machine;
 use crate::mode::Mode;
 use crate::small::{Cause, Form, SmallFault, SmallValue};
 use crate::value::{error_fault, literal_value};
@@ -18,7 +18,7 @@ use jt_program::{Code, Program};
 use sqlite_items::{Items, at};
 use std::alloc::Global;
 
-impl<'p> Machine<'p> {
+impl<'p> Evaluator<'p> {
     /// Begins a part.
     pub(crate) fn eval(
         &mut self,

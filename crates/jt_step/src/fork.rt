@@ -1,4 +1,4 @@
-//! How a machine makes tasks and acts on them.
+//! How an evaluator makes tasks and acts on them.
 
 ghost use Rattle.std.specs.Prelude.{◌≡◌, [], IfOk, None, slice_get};
 ghost use Rattle.jt_program.specs.Plan.{ProgramPlan};
@@ -6,7 +6,7 @@ ghost use Rattle.jt_program.specs.View.{program_plan};
 ghost use Rattle.jt_meaning.specs.Meaning as meaning;
 ghost use Rattle.jt_step.specs.Moves.{Does, built_in_mode};
 
-use crate::machine::Machine;
+use crate::evaluator::Evaluator;
 use crate::mode::Mode;
 use crate::row::valued;
 use crate::small::{Cause, Form, SmallFault, SmallValue};
@@ -94,7 +94,7 @@ fn values_known(
     Ok(Some(values))
 }
 
-impl<'p> Machine<'p> {
+impl<'p> Evaluator<'p> {
     /// The start of a task that is made here; nothing where what it takes has no value.
     fn child_start(&self, alloc: Global, task: &Fork) -> Result<Option<Start>, OutOfMemory>
         ensures { IfOk result (λ start. start ≡ meaning.child_start task.now.body self.now.stream (meaning.values_taken [] self.now.variables task.now.captured) (meaning.values_known [] self.now.constants)) }

@@ -1,4 +1,4 @@
-//! How a machine goes on with the value of a part.
+//! How an evaluator goes on with the value of a part.
 
 ghost use Rattle.std.specs.Prelude.{◌≡◌, ◌<◌, ◌+◌, ◌+ℤ◌, pos, int_lt, List, IfOk};
 ghost use Rattle.jt_base.specs.declared.operation.Reply.{Reply};
@@ -8,8 +8,8 @@ ghost use Rattle.jt_step.specs.Moves.{bounds_mode, range_mode, turn_mode};
 ghost use Rattle.jt_step.specs.Stack.{Follows, Hands, at, frames_weight, later_of, loop_weight, resume, state_of, work};
 ghost use Rattle.jt_meaning.specs.State.{Gave};
 
+use crate::evaluator::Evaluator;
 use crate::frame::{Exit, Frame, Loop};
-use crate::machine::Machine;
 use crate::mode::Mode;
 use crate::row::valued;
 use crate::small::{Cause, Form, SmallFault, SmallValue};
@@ -20,7 +20,7 @@ use jt_program::{Arm, Code};
 use jt_syntax::{ArithmeticOperator, ComparisonOperator};
 use std::alloc::Global;
 
-impl<'p> Machine<'p> {
+impl<'p> Evaluator<'p> {
     /// A part gave a value.
     pub(crate) fn give(&mut self, alloc: Global, v: SmallValue) -> Result<Mode<'p>, OutOfMemory>
         ensures { IfOk result (λ m. (program : ProgramPlan) → Follows program self.old (Mode.Gave v) self.new m) }

@@ -2,11 +2,11 @@
 #![tactic(auto)]
 
 mod eval;
+mod evaluator;
 mod fork;
 mod frame;
 mod give;
 mod line;
-mod machine;
 mod mode;
 mod print;
 mod read;

@@ -1,8 +1,8 @@
-//! What a machine is at.
+//! What an evaluator is at.
 
 ghost use Rattle.std.specs.Prelude.{◌≡◌, IfOk};
 ghost use Rattle.jt_step.specs.Task.{mode_tells};
-ghost use Rattle.jt_step.specs.Tasks.{told};
+ghost use Rattle.jt_step.specs.Tasks.{said};
 
 use crate::frame::Loop;
 use crate::small::{SmallFault, SmallValue};
@@ -13,7 +13,7 @@ use jt_program::Code;
 use sqlite_items::{Boxed, Items};
 use std::alloc::Global;
 
-/// What a machine is at.
+/// What an evaluator is at.
 #[derive(Drop)]
 pub enum Mode<'p> {
     /// Before the beginning of this body.
@@ -39,8 +39,8 @@ pub enum Mode<'p> {
 
 impl Mode<'_> {
     /// What an advance that stops here tells.
-    pub fn told(&self, alloc: Global) -> Result<Advance, OutOfMemory>
-        ensures { IfOk result (λ a. told a ≡ mode_tells self.now) }
+    pub fn advance(&self, alloc: Global) -> Result<Advance, OutOfMemory>
+        ensures { IfOk result (λ a. said a ≡ mode_tells self.now) }
     {
         match self {
             Mode::Begins(_) => Ok(Advance::Needs(Op::Begin)),

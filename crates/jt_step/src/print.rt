@@ -1,4 +1,4 @@
-//! How a machine prints.
+//! How an evaluator prints.
 
 ghost use Rattle.std.specs.Prelude.{◌≡◌, ◌+◌, ◌≤◌, IfOk};
 ghost use Rattle.jt_program.specs.Plan.{ProgramPlan};
@@ -7,17 +7,17 @@ ghost use Rattle.jt_step.specs.Moves.{Does, from_value};
 ghost use Rattle.jt_meaning.specs.State.{State};
 ghost use Rattle.jt_step.specs.Stack.{pieces_in, pieces_weight};
 
+use crate::evaluator::Evaluator;
 use crate::fork::waits;
 use crate::frame::Frame;
 use crate::line::Line;
-use crate::machine::Machine;
 use crate::mode::Mode;
 use crate::small::{Cause, SmallFault};
 use jt_base::{Op, OutOfMemory};
 use jt_program::{Code, Piece};
 use std::alloc::Global;
 
-impl<'p> Machine<'p> {
+impl<'p> Evaluator<'p> {
     /// Goes on with the items of a `println` that are left, up to the first that is evaluated, and
     /// prints; `line` is the text of those before.
     pub(crate) fn next_piece(

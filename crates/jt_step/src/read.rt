@@ -1,14 +1,14 @@
-//! What is read at once, with no frame and no move of the machine.
+//! What is read at once, with no frame and no move of the evaluator.
 
 ghost use Rattle.std.specs.Prelude.{◌≡◌, IfOk, IfSome, Some, slice_get};
 ghost use Rattle.jt_program.specs.View.{plan_of, plans};
-ghost use Rattle.jt_step.specs.AtOnce.{Gives};
+ghost use Rattle.jt_step.specs.AtOnce.{IsRead};
 ghost use Rattle.jt_meaning.specs.Meaning.{gives, go, run_choices, run_connection};
 ghost use Rattle.jt_meaning.specs.State.{bind};
 ghost use Rattle.jt_step.specs.Stack.{choices_in, comparisons_in, does, does_comparisons, does_operands, operands_in};
 ghost use Rattle.jt_meaning.specs.Values.{unary_of};
 
-use crate::machine::Machine;
+use crate::evaluator::Evaluator;
 use crate::row::{asks, first_of, truth};
 use crate::small::{Form, SmallValue};
 use crate::value::{apply_unary, compare, literal_value, operate};
@@ -22,12 +22,12 @@ use std::alloc::Global;
 /// its beginning, so this bounds how often a part is begun.
 const DEPTH: u32 = 8;
 
-impl Machine<'_> {
+impl Evaluator<'_> {
     /// The value of a part that gives one and changes nothing, where that is found at once: a literal,
     /// a variable or a constant that has a value, and operators, comparisons, `&&`, `||` and branches
     /// whose parts are such in turn. Nothing for other parts.
     pub(crate) fn read(&self, alloc: Global, e: &Code) -> Result<Option<SmallValue>, OutOfMemory>
-        ensures { IfOk result (λ r. IfSome r (Gives self.now (λ program. does program (plan_of e.now)))) }
+        ensures { IfOk result (λ r. IfSome r (IsRead self.now (λ program. does program (plan_of e.now)))) }
     {
         self.read_within(alloc, e, DEPTH)
     }
@@ -40,7 +40,7 @@ impl Machine<'_> {
         e: &Code,
         depth: u32,
     ) -> Result<Option<SmallValue>, OutOfMemory>
-        ensures { IfOk result (λ r. IfSome r (Gives self.now (λ program. does program (plan_of e.now)))) }
+        ensures { IfOk result (λ r. IfSome r (IsRead self.now (λ program. does program (plan_of e.now)))) }
     {
         match e {
             Code::Literal(literal) => Ok(Some(literal_value(*literal))),
@@ -71,7 +71,7 @@ impl Machine<'_> {
         e: &Code,
         depth: u32,
     ) -> Result<Option<SmallValue>, OutOfMemory>
-        ensures { IfOk result (λ r. IfSome r (Gives self.now (λ program s. bind (does program (plan_of e.now) s) (λ v. gives (unary_of operator v))))) }
+        ensures { IfOk result (λ r. IfSome r (IsRead self.now (λ program s. bind (does program (plan_of e.now) s) (λ v. gives (unary_of operator v))))) }
     {
         let Some(v) = self.read_within(alloc, e, depth)? else {
             return Ok(None);
@@ -91,7 +91,7 @@ impl Machine<'_> {
         es: &[(ArithmeticOperator, Code)],
         depth: u32,
     ) -> Result<Option<SmallValue>, OutOfMemory>
-        ensures { IfOk result (λ r. IfSome r (Gives self.now (λ program s. bind (does program (plan_of first.now) s) (λ v. does_operands program v (operands_in es.now))))) }
+        ensures { IfOk result (λ r. IfSome r (IsRead self.now (λ program s. bind (does program (plan_of first.now) s) (λ v. does_operands program v (operands_in es.now))))) }
     {
         let Some(start) = self.read_within(alloc, first, depth)? else {
             return Ok(None);
@@ -124,7 +124,7 @@ impl Machine<'_> {
         es: &[(ComparisonOperator, Code)],
         depth: u32,
     ) -> Result<Option<SmallValue>, OutOfMemory>
-        ensures { IfOk result (λ r. IfSome r (Gives self.now (λ program s. bind (does program (plan_of first.now) s) (λ v. does_comparisons program v (comparisons_in es.now))))) }
+        ensures { IfOk result (λ r. IfSome r (IsRead self.now (λ program s. bind (does program (plan_of first.now) s) (λ v. does_comparisons program v (comparisons_in es.now))))) }
     {
         let Some(start) = self.read_within(alloc, first, depth)? else {
             return Ok(None);
@@ -163,7 +163,7 @@ impl Machine<'_> {
         es: &[Code],
         depth: u32,
     ) -> Result<Option<SmallValue>, OutOfMemory>
-        ensures { IfOk result (λ r. IfSome r (Gives self.now (λ program s. bind (does program (plan_of first.now) s) (λ v. run_connection program (go program) connective v (plans es.now))))) }
+        ensures { IfOk result (λ r. IfSome r (IsRead self.now (λ program s. bind (does program (plan_of first.now) s) (λ v. run_connection program (go program) connective v (plans es.now))))) }
     {
         let Some(start) = self.read_within(alloc, first, depth)? else {
             return Ok(None);
@@ -197,7 +197,7 @@ impl Machine<'_> {
         otherwise: &Code,
         depth: u32,
     ) -> Result<Option<SmallValue>, OutOfMemory>
-        ensures { IfOk result (λ r. IfSome r (Gives self.now (λ program. run_choices program (go program) (choices_in arms.now) (does program (plan_of otherwise.now))))) }
+        ensures { IfOk result (λ r. IfSome r (IsRead self.now (λ program. run_choices program (go program) (choices_in arms.now) (does program (plan_of otherwise.now))))) }
     {
         let mut arms = arms;
         'arms: loop {

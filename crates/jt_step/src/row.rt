@@ -9,9 +9,9 @@ ghost use Rattle.jt_step.specs.Moves.{Does, asking, valued_mode};
 ghost use Rattle.jt_meaning.specs.State.{State, bind};
 ghost use Rattle.jt_step.specs.Stack.{choices_in, choices_weight, comparisons_in, comparisons_weight, does, operands_in, operands_weight, plans_weight, weight};
 
+use crate::evaluator::Evaluator;
 use crate::fork::call_built_in;
 use crate::frame::Frame;
-use crate::machine::Machine;
 use crate::mode::Mode;
 use crate::small::{Cause, Form, SmallFault, SmallValue};
 use crate::value::{compare, operate};
@@ -22,7 +22,7 @@ use jt_syntax::{ArithmeticOperator, ComparisonOperator, Connective};
 use sqlite_items::Items;
 use std::alloc::Global;
 
-impl<'p> Machine<'p> {
+impl<'p> Evaluator<'p> {
     /// Goes on with the parts of a block that are left; `v` is the value of the one before.
     pub(crate) fn next_part(
         &mut self,

@@ -1,19 +1,19 @@
-//! A machine that goes on with the replies of its operations.
+//! An evaluator that goes on with the replies of its operations.
 
 ghost use Rattle.std.specs.Prelude.{◌≡◌, ◌≤◌, true, IfOk, length};
 ghost use Rattle.jt_base.specs.declared.operation.Reply.TheVariants as reply;
 ghost use Rattle.jt_program.specs.View.{program_plan};
 ghost use Rattle.jt_meaning.specs.State.{given};
-ghost use Rattle.jt_step.specs.Stack.{Runs, waits, taken, over_by, given_mode};
+ghost use Rattle.jt_step.specs.Stack.{RunsOn, waits, taken, over_by, given_mode};
 
-use crate::machine::Machine;
+use crate::evaluator::Evaluator;
 use crate::mode::Mode;
 use crate::small::{Form, SmallFault, SmallValue};
 use jt_base::{Note, Op, OutOfMemory, Reply};
 use jt_program::Program;
 use std::alloc::Global;
 
-impl<'p> Machine<'p> {
+impl<'p> Evaluator<'p> {
     /// Goes on with the replies of the notes from the number `used` on, by at most so many turns. The
     /// mode at the end, and how many notes were used up to it.
     pub(crate) fn run_on(
@@ -26,7 +26,7 @@ impl<'p> Machine<'p> {
         turns: u32,
     ) -> Result<(Mode<'p>, usize), OutOfMemory>
         requires { used ≤ length log.now }
-        ensures { IfOk result (λ r. Runs (program_plan program.now) log.now turns self.old used mode.entry self.new r.1 r.0) }
+        ensures { IfOk result (λ r. RunsOn (program_plan program.now) log.now turns self.old used mode.entry self.new r.1 r.0) }
     {
         let mut mode = mode;
         let mut used = used;

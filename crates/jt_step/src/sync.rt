@@ -1,4 +1,4 @@
-//! How a machine waits for the tasks that were made in an `@sync`.
+//! How an evaluator waits for the tasks that were made in an `@sync`.
 
 ghost use Rattle.std.specs.Prelude.{◌≡◌, ◌+◌, [], IfOk, None, Some, drop};
 ghost use Rattle.jt_program.specs.Plan.{ProgramPlan};
@@ -8,8 +8,8 @@ ghost use Rattle.jt_step.specs.Moves.{Does, left_mode};
 ghost use Rattle.jt_step.specs.Stack.{does, exits, weight};
 ghost use Rattle.jt_meaning.specs.State.{State};
 
+use crate::evaluator::Evaluator;
 use crate::frame::{Exit, Frame, Waits};
-use crate::machine::Machine;
 use crate::mode::Mode;
 use crate::small::{SmallFault, SmallValue};
 use jt_base::{Op, OutOfMemory, Path};
@@ -56,7 +56,7 @@ fn left<'p>(exit: Exit, value: SmallValue, fault: Option<SmallFault>) -> Mode<'p
     }
 }
 
-impl<'p> Machine<'p> {
+impl<'p> Evaluator<'p> {
     /// Begins the part of an `@sync`.
     pub(crate) fn begin_sync(&mut self, alloc: Global, e: &'p Code) -> Result<Mode<'p>, OutOfMemory>
         ensures { IfOk result (λ m. (program : ProgramPlan) → Does program self.old (λ (s : State). synced s.awaited (does program (plan_of e.entry.now) (awaiting [] s))) (weight (plan_of e.entry.now) + 4) self.new m) }

@@ -6,7 +6,7 @@ ghost use Rattle.jt_base.specs.declared.run.Pool.{Pool};
 ghost use Rattle.jt_base.specs.declared.run.Sizes.{Sizes};
 ghost use Rattle.jt_step.specs.Tasks.{Advances, AsksWell, GoesOn, new_task, seat_at};
 
-use crate::machine::Machine;
+use crate::evaluator::Evaluator;
 use crate::mode::Mode;
 use jt_base::{How, Job, Limits, Note, Op, OutOfMemory, Path, Pool, Reply, Sizes};
 use jt_meaning::Start;
@@ -40,9 +40,9 @@ pub struct TaskState<'p> {
     /// The worker to which it is bound.
     bound: Option<u32>,
     log: Vec<Note>,
-    /// How many notes the machine has had.
+    /// How many notes the evaluator has had.
     used: usize,
-    machine: Machine<'p>,
+    evaluator: Evaluator<'p>,
     mode: Mode<'p>,
     /// Whether memory was refused in an advance.
     failed: bool,
@@ -124,7 +124,14 @@ impl<'p> TaskRun<'p> {
         ensures { IfOk result (λ t. t ≡ new_task (record { program = program_plan program.now; sizes = sizes; limits = limits.now }) path start parent) }
     {
         let body = &program.tasks.as_slice()[start.code as usize];
-        let machine = Machine::new(alloc, program, body.variables, &start, &path, limits.turns)?;
+        let evaluator = Evaluator::new(
+            alloc,
+            program,
+            body.variables,
+            &start,
+            &path,
+            limits.turns,
+        )?;
         let pool = pool_of(&path, start.how, sizes, parent);
         let bound = bound_of(&path, start.how);
         let state = TaskState {
@@ -137,7 +144,7 @@ impl<'p> TaskRun<'p> {
             bound,
             log: Vec::new(alloc),
             used: 0,
-            machine,
+            evaluator,
             mode: Mode::Begins(&body.code),
             failed: false,
             alloc,
@@ -164,7 +171,7 @@ impl<'p> TaskRun<'p> {
         }
         state.failed = true;
         let mode = replace(&mut state.mode, Mode::Over);
-        let (mode, used) = state.machine.run_on(
+        let (mode, used) = state.evaluator.run_on(
             state.alloc,
             state.program,
             state.log.as_slice(),
@@ -172,18 +179,18 @@ impl<'p> TaskRun<'p> {
             mode,
             turns,
         )?;
-        let told = mode.told(state.alloc)?;
+        let advance = mode.advance(state.alloc)?;
         state.used = used;
         state.mode = mode;
         state.failed = false;
-        Ok(told)
+        Ok(advance)
     }
 }
 
 impl<'p> Job for TaskRun<'p> {
     ghost use Rattle.jt_step.specs.Laws.{first_operation, needs_no_spawn, spawns_next_child};
     ghost use Rattle.jt_meaning.specs.Run.{Run};
-    ghost use Rattle.jt_meaning.specs.Next.{next_in};
+    ghost use Rattle.jt_meaning.specs.Next.{next_operation};
     ghost use Rattle.jt_step.specs.Tasks.{Task, told_of};
 
     type Start = Start;
@@ -196,7 +203,7 @@ impl<'p> Job for TaskRun<'p> {
 
     ghost room = { λ (t : Task). t.room };
 
-    ghost next = { next_in };
+    ghost next = { next_operation };
 
     fn path(&self) -> &Path {
         &self.state.path
@@ -237,9 +244,9 @@ impl<'p> Job for TaskRun<'p> {
         self.state.bound = Some(worker);
     }
 
-    ghost begins = { λ r path start n. first_operation r.program r.limits.turns path start n };
+    ghost begins = { λ r path start n. first_operation r path start n };
 
-    ghost no_spawn = { λ r path start rs op. needs_no_spawn r.program r.limits.turns path start rs op };
+    ghost no_spawn = { λ r path start rs op. needs_no_spawn r path start rs op };
 
-    ghost names = { λ r path start rs op t. spawns_next_child r.program r.limits.turns path start rs op t };
+    ghost names = { λ r path start rs op t. spawns_next_child r path start rs op t };
 }

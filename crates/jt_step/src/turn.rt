@@ -3,10 +3,10 @@
 ghost use Rattle.std.specs.Prelude.{◌≡◌, ◌<◌, true, false, IfOk, slice_get};
 ghost use Rattle.jt_program.specs.Plan.{ProgramPlan};
 ghost use Rattle.jt_program.specs.View.{program_plan};
-ghost use Rattle.jt_step.specs.Stack.{Follows, Turns, Settles, rests, begins, refusal};
+ghost use Rattle.jt_step.specs.Stack.{Follows, TakesTurn, Settles, rests, begins, refusal};
 
+use crate::evaluator::Evaluator;
 use crate::frame::{Frame, Loop};
-use crate::machine::Machine;
 use crate::mode::Mode;
 use crate::small::{Cause, Form, SmallFault, SmallValue};
 use crate::variables::{arguments_of, assign, renew};
@@ -16,7 +16,7 @@ use sqlite_items::at;
 use std::alloc::Global;
 use std::mem::replace;
 
-impl<'p> Machine<'p> {
+impl<'p> Evaluator<'p> {
     /// Whether nothing moves but by a reply or by a turn.
     fn rests(&self, program: &Program, mode: &Mode<'p>) -> bool
         ensures { result ≡ rests (program_plan program.now) self.now mode.now }
@@ -110,7 +110,7 @@ impl<'p> Machine<'p> {
         mode: Mode<'p>,
     ) -> Result<Mode<'p>, OutOfMemory>
         requires { begins (program_plan program.now) self.old mode ≡ true }
-        ensures { IfOk result (λ m. Turns (program_plan program.now) self.old mode.entry self.new m) }
+        ensures { IfOk result (λ m. TakesTurn (program_plan program.now) self.old mode.entry self.new m) }
     {
         match mode {
             Mode::Enter(f, vs) => match at(program.functions.as_slice(), f) {
@@ -135,7 +135,7 @@ impl<'p> Machine<'p> {
     /// Begins a turn of a loop.
     fn again(&mut self, turns: Loop<'p>) -> Result<Mode<'p>, OutOfMemory>
         requires { 0 < self.old.turns }
-        ensures { IfOk result (λ m. (program : ProgramPlan) → Turns program self.old (Mode.Again turns.entry) self.new m) }
+        ensures { IfOk result (λ m. (program : ProgramPlan) → TakesTurn program self.old (Mode.Again turns.entry) self.new m) }
     {
         match turns {
             Loop::While(first, count, _condition, body) => {

@@ -5,14 +5,14 @@ ghost use Rattle.jt_program.specs.Plan.{ProgramPlan};
 ghost use Rattle.jt_meaning.specs.State.{Returned, Broke, Continued, Faulted};
 ghost use Rattle.jt_step.specs.Stack.{Follows, Hands};
 
+use crate::evaluator::Evaluator;
 use crate::frame::{Exit, Frame};
-use crate::machine::Machine;
 use crate::mode::Mode;
 use crate::small::{Cause, Form, SmallFault, SmallValue};
 use jt_base::OutOfMemory;
 use std::alloc::Global;
 
-impl<'p> Machine<'p> {
+impl<'p> Evaluator<'p> {
     /// The open call has this value.
     pub(crate) fn return_value(
         &mut self,

@@ -1,7 +1,0 @@
--- The frame that is taken off is handed the end of its part.
-use Rattle.std.proofs.Common.{refl}
-use Rattle.jt_step.proofs.Resumes.{hands}
-use Rattle.jt_step.proofs.machine.Machine.leave_loop.Goals as goal
-
-pub returns-in-Some : goal.returns-in-Some
-returns-in-Some c = λ program. hands program _ _ _ _ _ _ _ c.in-Some.ensures.items (λ fs s. refl) (λ rs. refl) refl refl (c.leave_loop_to.ensures program)
