@@ -17,7 +17,7 @@ use Rattle.jt_histories.proofs.Lists.{or_else}
 use Rattle.jt_shard.specs.Shards.{ShardState, MustWait, object_for}
 use Rattle.jt_meaning.specs.declared.start.Start.{Start}
 use Rattle.jt_meaning.specs.Run.{Run}
-use Rattle.jt_meaning.specs.Next.{next_in}
+use Rattle.jt_meaning.specs.Next.{next_operation}
 use Rattle.jt_step.specs.Tasks.{Task, told_of, coming}
 use Rattle.jt_machine.specs.declared.run.End.TheVariants as end
 use Rattle.jt_machine.specs.Machines.{logs_of, waiting_in, AreSettled, IsWaiting, Runs, Ended}
@@ -49,8 +49,8 @@ module _ (run : Run) (seeds : Seeds) (shards : List (ShardState Task)) (runs : R
       let g = has_waiting (λ w. IsWaiting run k w × MustWait told_of s.log w) s.waiting j f.3 f.4 in
       let w = g.0 in
       let waits = g.1.0 in
-      let here : coming w.0 ≡ next_in run w.0.path w.0.start (map note_reply w.0.log) = ap (λ r. next_in r w.0.path w.0.start (map note_reply w.0.log)) waits.job.of_run in
-      let there : op_of (next_in run w.0.path w.0.start (map note_reply w.0.log)) ≡ Some o = ap (λ (d : Held Start). op_of (next_in run d.path d.start (map note_reply d.log))) g.2 ∙ e in
+      let here : coming w.0 ≡ next_operation run w.0.path w.0.start (map note_reply w.0.log) = ap (λ r. next_operation r w.0.path w.0.start (map note_reply w.0.log)) waits.job.of_run in
+      let there : op_of (next_operation run w.0.path w.0.start (map note_reply w.0.log)) ≡ Some o = ap (λ (d : Held Start). op_of (next_operation run d.path d.start (map note_reply d.log))) g.2 ∙ e in
       let both : Some w.1 ≡ Some o = sym waits.comes ∙ ap op_of here ∙ there in
       let one : w.1 ≡ o = cc in
       let log : get_or (logs_of shards) k [] ≡ s.log = log_at shards k s f.2 in

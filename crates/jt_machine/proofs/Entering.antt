@@ -1,8 +1,8 @@
 -- An operation of a job has its entry.
-use Rattle.std.proofs.Common.{◌≡◌, ℕ, zero, suc, ◌+◌, ◌-◌, ◌<◌, ◌≤◌, ◌⊎◌, inl, inr, List, [], ◌∷◌, ◌++◌, Option, Some, None, Bool, true, false, ◌&&◌, not, cond, max, refl, sym, ap, ◌∙◌, subst, arith, length, map, get_or, set, append_assoc}
+use Rattle.std.proofs.Common.{◌≡◌, ℕ, zero, suc, ◌+◌, ◌-◌, ◌<◌, ◌≤◌, inl, List, [], ◌∷◌, ◌++◌, Option, Some, None, Bool, true, false, ◌&&◌, not, cond, max, refl, sym, ap, ◌∙◌, subst, arith, length, map, get_or, set, append_assoc}
 use Rattle.std.specs.Prelude.{slice_get, if◌then◌else◌}
 use Rattle.std.specs.List.{All}
-use Rattle.std.proofs.lemmas.Bool.{false≢true}
+use Rattle.std.proofs.lemmas.Bool.{false≢true, and_parts}
 use Rattle.std.proofs.lemmas.List.{length-set, length-map, map_push, map-append, length-append}
 use Rattle.std.proofs.lemmas.Option.{slice_get_within}
 use Rattle.std.proofs.lemmas.List.Elements.{All-cons, All-head, All-tail}
@@ -14,18 +14,20 @@ use Rattle.jt_base.specs.declared.run.Pool.TheVariants as pool
 use Rattle.jt_base.specs.declared.run.Seeds.{Seeds}
 use Rattle.jt_base.specs.Coming.{Next, Needs, Spawns, op_of}
 use Rattle.jt_base.specs.Jobs.{Seat, Held, note_reply, last_note}
-use Rattle.jt_base.specs.Objects.{shard_of_object}
-use Rattle.jt_laws.specs.Entries.{object, shard, of_object, ends, In}
-use Rattle.jt_laws.specs.Lines.{is_main_end}
+use Rattle.jt_base.specs.declared.object.Object.TheVariants as object_kind
+use Rattle.jt_base.specs.Objects.{object_of, shard_of_object}
+use Rattle.jt_laws.specs.Entries.{object, shard, of_object, ends}
+use Rattle.jt_laws.specs.Lines.{is_main_end, main_end}
 use Rattle.jt_laws.specs.Objects.{reply_after}
 use Rattle.jt_laws.specs.Seats.{may_work, main_seat, seat_by}
 use Rattle.jt_laws.specs.Tasks.{is_main, is_new, ok_if}
 use Rattle.jt_laws.specs.Histories.{World}
+use Rattle.jt_laws.proofs.Paths.{same_equal}
 use Rattle.jt_laws.proofs.Possible.{possible}
 use Rattle.jt_histories.specs.Jobs.{Makes, Holds, note_of, last_entry, last_entry_from, child_job, left_after, coming}
 use Rattle.jt_histories.specs.Kept.{Laws, made_path}
 use Rattle.jt_histories.proofs.Keeps.{entry_keeps}
-use Rattle.jt_histories.proofs.Lists.{or_else, in_either, in_right}
+use Rattle.jt_histories.proofs.Lists.{by_test}
 use Rattle.jt_program.specs.Plan.{BodyPlan}
 use Rattle.jt_shard.specs.Calls.{Enters}
 use Rattle.jt_shard.specs.Shards.{ShardState, object_for, next_entry, next_stamp}
@@ -33,16 +35,16 @@ use Rattle.jt_shard.proofs.RunLaws.{laws_of}
 use Rattle.jt_meaning.specs.declared.start.Start.{Start}
 use Rattle.jt_step.specs.Laws as law
 use Rattle.jt_meaning.specs.Run.{Run}
-use Rattle.jt_meaning.specs.Next.{next_in}
+use Rattle.jt_meaning.specs.Next.{next_operation}
 use Rattle.jt_step.specs.Tasks.{Task, told_of, coming_with, new_task, seat_at, ComesAfter}
 use Rattle.jt_step.specs.Tasks as task
 use Rattle.jt_machine.specs.declared.run.End.{End}
 use Rattle.jt_machine.specs.declared.run.End.TheVariants as end
-use Rattle.jt_machine.specs.declared.turn.Follows.{Follows}
-use Rattle.jt_machine.specs.declared.turn.Follows.TheVariants as follows
-use Rattle.jt_machine.specs.Machines.{logs_of, waiting_in, IsJob, IsWaiting, IsShard, MainGoesOn, MainEnds, Runs, EndsBy, Ended, Grows, stamps_left, jobs_in}
-use Rattle.jt_machine.specs.Runs.{world_of, worker_of, Grown}
-use Rattle.jt_machine.specs.Turns.{follows_by, IsChild, IsNext, Asks, left_by, Replied}
+use Rattle.jt_machine.specs.declared.progress.Follows.{Follows}
+use Rattle.jt_machine.specs.declared.progress.Follows.TheVariants as follows
+use Rattle.jt_machine.specs.Machines.{logs_of, waiting_in, IsJob, IsWaiting, IsShard, main_end_in, Runs, EndsBy, Ended, Grows, stamps_left, jobs_in}
+use Rattle.jt_machine.specs.Runs.{world_of, worker_of, GrownByWorkers}
+use Rattle.jt_machine.specs.Operations.{follows_by, IsChild, IsNext, Asks, left_by, Replied}
 use Rattle.jt_machine.proofs.Seated.{job_works}
 use Rattle.jt_machine.proofs.Workers.{grown_more}
 use Rattle.jt_machine.proofs.Shelf.{log_at, logs_set, set_each, waiting_same, stamps_set}
@@ -51,9 +53,9 @@ use Rattle.jt_machine.proofs.Shelf.{log_at, logs_set, set_each, waiting_same, st
 
 pub run_laws : (run : Run) (seeds : Seeds) → Laws Start (world_of run seeds)
 run_laws run seeds = laws_of Start (world_of run seeds)
-    (λ path start n. law.first_operation run.program run.limits.turns path start n)
-    (λ path start rs o. law.needs_no_spawn run.program run.limits.turns path start rs o)
-    (λ path start rs o t. law.spawns_next_child run.program run.limits.turns path start rs o t)
+    (λ path start n. law.first_operation run path start n)
+    (λ path start rs o. law.needs_no_spawn run path start rs o)
+    (λ path start rs o t. law.spawns_next_child run path start rs o t)
 
 -- ---- what comes next
 
@@ -80,29 +82,33 @@ other_end_not o path n = ap (λ b. ends o && b) n ∙ either (ends o)
     either true = refl
     either false = refl
 
--- one log with one entry more
-in_longer : (logs : List (List Entry)) (k : ℕ) (log : List Entry) (e : Entry) → get_or logs k [] ≡ log → (j : ℕ) (x : Entry) → In x (get_or (set logs k (log ++ e ∷ [])) j []) → In x (get_or logs j []) ⊎ (e ≡ x)
-in_longer [] k log e q j x i = inl i
-in_longer (l ∷ ls) zero log e q zero x i = or_else (in_either x log (e ∷ []) i) (λ a. inl (subst (In x) (sym q) a)) (λ a. or_else a (λ p. inr p) (λ z. absurd z))
-in_longer (l ∷ ls) zero log e q (suc j) x i = inl i
-in_longer (l ∷ ls) (suc k) log e q zero x i = inl i
-in_longer (l ∷ ls) (suc k) log e q (suc j) x i = in_longer ls k log e q j x i
+end_push : (log : List Entry) (e : Entry) → main_end log ≡ None → main_end (log ++ e ∷ []) ≡ cond (is_main_end e) (Some e.op) None
+end_push [] e n = refl
+end_push (x ∷ xs) e n = by_test (is_main_end x)
+    (λ y. absurd (let z : Some x.op ≡ None = sym (ap (λ b. cond b (Some x.op) (main_end xs)) y) ∙ n in cc))
+    (λ y. ap (λ b. cond b (Some x.op) (main_end (xs ++ e ∷ []))) y ∙ end_push xs e (sym (ap (λ b. cond b (Some x.op) (main_end xs)) y) ∙ n))
 
-last_in : (logs : List (List Entry)) (k : ℕ) (log : List Entry) (e : Entry) → k < length logs → In e (get_or (set logs k (log ++ e ∷ [])) k [])
-last_in [] k log e h = absurd (omega (arith, h))
-last_in (l ∷ ls) zero log e h = in_right e log (e ∷ []) (inl refl)
-last_in (l ∷ ls) (suc k) log e h = last_in ls k log e (omega (arith, h))
+-- an end of main stands in shard 0
+pub end_shard : (e : Entry) → is_main_end e ≡ true → shard e ≡ 0
+end_shard e y =
+    let b = and_parts (ends e.op) (is_main e.task) y in
+    let path : e.task ≡ [] = same_equal e.task [] b.1 in
+    own e.op b.0 ∙ ap (λ p. shard_of_object (object_kind.Task p)) path
+  where
+    own : (o : Op) → ends o ≡ true → shard_of_object (object_of e.task o) ≡ shard_of_object (object_kind.Task e.task)
+    own (op.End value) t = refl
+    own (op.Fail fault) t = refl
+    own o t = absurd (false≢true t)
 
-still_goes_on : (logs : List (List Entry)) (k : ℕ) (log : List Entry) (e : Entry) → get_or logs k [] ≡ log → MainGoesOn logs → is_main_end e ≡ false → MainGoesOn (set logs k (log ++ e ∷ []))
-still_goes_on logs k log e q g n j x i = or_else (in_longer logs k log e q j x i) (λ a. g j x a) (λ p. subst (λ y. is_main_end y ≡ false) p n)
+still_goes_on : (logs : List (List Entry)) (k : ℕ) (log : List Entry) (e : Entry) → get_or logs k [] ≡ log → main_end_in logs ≡ None → is_main_end e ≡ false → main_end_in (set logs k (log ++ e ∷ [])) ≡ None
+still_goes_on [] k log e q g n = g
+still_goes_on (l ∷ ls) zero log e q g n = end_push log e (ap main_end (sym q) ∙ g) ∙ ap (λ b. cond b (Some e.op) None) n
+still_goes_on (l ∷ ls) (suc k) log e q g n = g
 
-main_ends : (logs : List (List Entry)) (k : ℕ) (log : List Entry) (e : Entry) → get_or logs k [] ≡ log → k < length logs → shard e ≡ k → MainGoesOn logs → is_main_end e ≡ true → MainEnds (set logs k (log ++ e ∷ [])) e.op
-main_ends logs k log e q h at g y = record {
-  only = λ j x i z. or_else (in_longer logs k log e q j x i) (λ a. absurd (false≢true (sym (g j x a) ∙ z))) (λ p. ap (λ (v : Entry). v.op) (sym p));
-  entry = e;
-  there = subst (λ n. In e (get_or (set logs k (log ++ e ∷ [])) n [])) (sym at) (last_in logs k log e h);
-  ends = y;
-}
+main_ends : (logs : List (List Entry)) (k : ℕ) (log : List Entry) (e : Entry) → get_or logs k [] ≡ log → k < length logs → shard e ≡ k → main_end_in logs ≡ None → is_main_end e ≡ true → main_end_in (set logs k (log ++ e ∷ [])) ≡ Some e.op
+main_ends [] k log e q h at g y = absurd (omega (arith, h))
+main_ends (l ∷ ls) zero log e q h at g y = end_push log e (ap main_end (sym q) ∙ g) ∙ ap (λ b. cond b (Some e.op) None) y
+main_ends (l ∷ ls) (suc k) log e q h at g y = let z = end_shard e y in absurd (omega (arith, z, at))
 
 -- ---- the last stamp
 
@@ -141,7 +147,7 @@ module _ (run : Run) (seeds : Seeds) (shards : List (ShardState Task)) (ready : 
   made : Makes Start world (get_or (logs_of shards) (shard entry) []) (told_of job) entry
   made = record {
     task = refl;
-    comes = subst (λ r. op_of (next_in r job.path job.start (map note_reply job.log)) ≡ Some o) own_job.of_run (asked run job o f asks.follows);
+    comes = subst (λ r. op_of (next_operation r job.path job.start (map note_reply job.log)) ≡ Some o) own_job.of_run (asked run job o f asks.follows);
     allowed = ap (λ l. reply_after (of_object (object entry) l) job.path o) (ap (λ n. get_or (logs_of shards) n []) here ∙ log_here) ∙ enters.allowed;
     works = ap (may_work run.sizes job.seat) by ∙ job_works run seeds (logs_of shards) (map told_of ((job ∷ ready) ++ waiting_in shards)) runs.worker runs.holds (told_of job) (inl refl);
     stamped = ap (λ l. max (last_note job.log) (last_entry l) + 1) (sym (ap (λ n. get_or (logs_of shards) n []) here ∙ log_here));
@@ -156,7 +162,7 @@ module _ (run : Run) (seeds : Seeds) (shards : List (ShardState Task)) (ready : 
       (entry_keeps Start world (run_laws run seeds) (logs_of shards) (told_of job) rest entry runs.holds made))
 
   comes_next : (n : Next Start) → task.coming job ≡ Some n → coming Start world (told_of job) ≡ Some n
-  comes_next n e = subst (λ r. next_in r job.path job.start (map note_reply job.log) ≡ Some n) own_job.of_run e
+  comes_next n e = subst (λ r. next_operation r job.path job.start (map note_reply job.log) ≡ Some n) own_job.of_run e
 
   log_after : s'.log ≡ s.log ++ entry ∷ []
   log_after = ap (λ (t : ShardState Task). t.log) enters.shard
@@ -187,8 +193,8 @@ module _ (run : Run) (seeds : Seeds) (shards : List (ShardState Task)) (ready : 
         waiting = subst (All (IsWaiting run k)) (sym (ap (λ (t : ShardState Task). t.waiting) enters.shard)) own.waiting;
       }
 
-  goes_on_now : is_main_end entry ≡ false → MainGoesOn (logs_of (set shards k s'))
-  goes_on_now n = subst MainGoesOn (sym logs_after) (still_goes_on (logs_of shards) k s.log entry log_here runs.goes_on n)
+  goes_on_now : is_main_end entry ≡ false → main_end_in (logs_of (set shards k s')) ≡ None
+  goes_on_now n = ap main_end_in logs_after ∙ (still_goes_on (logs_of shards) k s.log entry log_here runs.goes_on n)
 
   -- with these jobs in the place of the job
   runs_now : (jobs : List Task) → All (IsJob run) (jobs ++ ready) → Holds Start world (logs_of (set shards k s')) (map told_of ((jobs ++ ready) ++ waiting_in (set shards k s'))) → is_main_end entry ≡ false → Runs run seeds (set shards k s') (jobs ++ ready)
@@ -209,11 +215,11 @@ module _ (run : Run) (seeds : Seeds) (shards : List (ShardState Task)) (ready : 
       let start : job'.start ≡ job.start = ap (λ (d : Held Start). d.start) enters.job in
       let notes : job'.log ≡ job.log ++ note_of entry ∷ [] = ap (λ (d : Held Start). d.log) enters.job in
       let same : task.coming job' ≡ coming_with job reply =
-      ap (λ r. next_in r job'.path job'.start (map note_reply job'.log)) same_run
-      ∙ ap (λ p. next_in job.run p job'.start (map note_reply job'.log)) path
-      ∙ ap (λ t. next_in job.run job.path t (map note_reply job'.log)) start
-      ∙ ap (λ l. next_in job.run job.path job.start (map note_reply l)) notes
-      ∙ ap (λ l. next_in job.run job.path job.start l) (map_push note_reply job.log (note_of entry)) in
+      ap (λ r. next_operation r job'.path job'.start (map note_reply job'.log)) same_run
+      ∙ ap (λ p. next_operation job.run p job'.start (map note_reply job'.log)) path
+      ∙ ap (λ t. next_operation job.run job.path t (map note_reply job'.log)) start
+      ∙ ap (λ l. next_operation job.run job.path job.start (map note_reply l)) notes
+      ∙ ap (λ l. next_operation job.run job.path job.start l) (map_push note_reply job.log (note_of entry)) in
       record {
         of_run = same_run ∙ own_job.of_run;
         comes = (now.0, ap op_of same ∙ now.1);
@@ -237,11 +243,11 @@ module _ (run : Run) (seeds : Seeds) (shards : List (ShardState Task)) (ready : 
       (main_end_not o job.path y)
 
   -- main has ended by this entry
-  ends_by : (x : Op) → o ≡ x → ends x ≡ true → is_main job.path ≡ true → MainEnds (logs_of (set shards k s')) x
+  ends_by : (x : Op) → o ≡ x → ends x ≡ true → is_main job.path ≡ true → main_end_in (logs_of (set shards k s')) ≡ Some x
   ends_by x e y q =
-      subst (MainEnds (logs_of (set shards k s'))) e
-      (subst (λ ls. MainEnds ls o) (sym logs_after)
-      (main_ends (logs_of shards) k s.log entry log_here (within_logs k s at) here runs.goes_on (ap (λ b. b && is_main job.path) (ap ends e ∙ y) ∙ q)))
+      ap main_end_in logs_after
+      ∙ main_ends (logs_of shards) k s.log entry log_here (within_logs k s at) here runs.goes_on (ap (λ b. b && is_main job.path) (ap ends e ∙ y) ∙ q)
+      ∙ ap (λ z. Some z) e
     where
       within_logs : (i : ℕ) (t : ShardState Task) → slice_get shards i ≡ Some t → i < length (logs_of shards)
       within_logs i t f = let l = length-map shards (λ (u : ShardState Task). u.log) in let w = slice_get_within shards i t f in omega (arith, l, w)
@@ -290,7 +296,7 @@ module _ (run : Run) (seeds : Seeds) (shards : List (ShardState Task)) (ready : 
       let b = body_at run.program.tasks n.start.code n.body in
       record {
         of_run = ap (λ (t : Task). t.run) n.made;
-        comes = (op.Begin, ap (λ (t : Task). op_of (task.coming t)) n.made ∙ ap op_of (law.begins run.program run.limits.turns n.path n.start b.0 b.1));
+        comes = (op.Begin, ap (λ (t : Task). op_of (task.coming t)) n.made ∙ ap op_of (law.begins run n.path n.start b.0 b.1));
       }
 
   replied_spawn : (c : Task) → IsChild run job o c → Runs run seeds (set shards k s') (job' ∷ c ∷ ready)
@@ -328,9 +334,9 @@ module _ (run : Run) (seeds : Seeds) (shards : List (ShardState Task)) (ready : 
 
   pub entry_grows : Grows run seeds shards (set shards k s')
   entry_grows from g =
-      subst (λ ls. Grown Start world from ls) (sym logs_after)
-      (subst (λ l. Grown Start world from (set (logs_of shards) k (l ++ entry ∷ []))) log_here
-      (subst (λ n. Grown Start world from (set (logs_of shards) n (get_or (logs_of shards) n [] ++ entry ∷ []))) here
+      subst (λ ls. GrownByWorkers Start world from ls) (sym logs_after)
+      (subst (λ l. GrownByWorkers Start world from (set (logs_of shards) k (l ++ entry ∷ []))) log_here
+      (subst (λ n. GrownByWorkers Start world from (set (logs_of shards) n (get_or (logs_of shards) n [] ++ entry ∷ []))) here
       (grown_more Start world (run_laws run seeds) (logs_of shards) (told_of job) rest entry runs.holds made by from g)))
 
   pub count_after : jobs_in (set shards k s') (left_by job' f ++ ready) ≤ jobs_in shards (job ∷ ready) + 1

@@ -1,20 +1,17 @@
 -- What is left to do falls.
-use Rattle.std.proofs.Common.{◌≡◌, ℕ, ◌+◌, ◌-◌, ◌*◌, ◌<◌, ◌≤◌, ◌⊎◌, inl, inr, List, ◌∷◌, ◌++◌, Some, refl, sym, ap, ◌∙◌, subst, arith, length}
-use Rattle.std.specs.Prelude.{slice_get, remove}
+use Rattle.std.proofs.Common.{◌≡◌, ℕ, ◌+◌, ◌-◌, ◌*◌, ◌<◌, ◌≤◌, ◌⊎◌, inl, inr, List, ◌∷◌, ◌++◌, refl, sym, subst, arith, length}
 use Rattle.std.specs.List.Sorted.{IsPermutation}
-use Rattle.std.proofs.lemmas.Option.{slice_get_within, get_or_from_slice_get}
 use Rattle.std.proofs.Math.Nat.{mul-le-mul_left}
 use Rattle.std.proofs.lemmas.List.{length-append}
-use Rattle.std.proofs.lemmas.List.Sorted.{IsPermutation-append_left, IsPermutation-remove, length_permutation}
+use Rattle.std.proofs.lemmas.List.Sorted.{IsPermutation-append_left, length_permutation}
 use Rattle.jt_base.specs.declared.run.Seeds.{Seeds}
 use Rattle.jt_shard.specs.Shards.{ShardState}
 use Rattle.jt_meaning.specs.Run.{Run}
 use Rattle.jt_step.specs.Tasks.{Task}
-use Rattle.jt_machine.specs.declared.run.End.{End}
-use Rattle.jt_machine.specs.declared.turn.Turn.{Turn}
-use Rattle.jt_machine.specs.declared.turn.Turn.TheVariants as turn
-use Rattle.jt_machine.specs.Machines.{waiting_in, AreSettled, Runs, Ended, Falls, Grows, stamps_left, jobs_in}
-use Rattle.jt_machine.specs.Turns.{Leaves, Turns}
+use Rattle.jt_machine.specs.declared.progress.Progress.{Progress}
+use Rattle.jt_machine.specs.declared.progress.Progress.TheVariants as progress
+use Rattle.jt_machine.specs.Machines.{waiting_in, AreSettled, Runs, Falls, Grows, stamps_left, jobs_in}
+use Rattle.jt_machine.specs.Advancing.{Leaves, CarriesOn}
 use Rattle.jt_machine.proofs.Following.{runs_permuted}
 
 falls_further : (a : List (ShardState Task)) (xs : List Task) (l : ℕ) (b : List (ShardState Task)) (ys : List Task) (m : ℕ) (c : List (ShardState Task)) (zs : List Task) (n : ℕ) → Falls a xs l b ys m → Falls b ys m c zs n → Falls a xs l c zs n
@@ -33,7 +30,7 @@ module _ (run : Run) (seeds : Seeds) (shards0 : List (ShardState Task)) (ready0 
   slice_begins r s = record { runs = r; settled = s; grows = λ l g. g; falls = record { total = omega arith; fewer = inr (refl, omega arith) } }
 
   module _ (shards : List (ShardState Task)) (ready : List Task) (job : Task) (sofar : Leaves run seeds shards0 ready0 job0 shards (job ∷ ready) (length ready)) where
-    pub slice_goes_on : (job' : Task) (shards' : List (ShardState Task)) (ready' : List Task) → Turns run seeds shards ready job (turn.GoesOn job') shards' ready' → Leaves run seeds shards0 ready0 job0 shards' (job' ∷ ready') (length ready')
+    pub slice_goes_on : (job' : Task) (shards' : List (ShardState Task)) (ready' : List Task) → CarriesOn run seeds shards ready job (progress.GoesOn job') shards' ready' → Leaves run seeds shards0 ready0 job0 shards' (job' ∷ ready') (length ready')
     slice_goes_on job' shards' ready' t = record {
       runs = t.0.runs;
       settled = t.0.settled;
@@ -41,16 +38,13 @@ module _ (run : Run) (seeds : Seeds) (shards0 : List (ShardState Task)) (ready0 
       falls = falls_further shards0 (job0 ∷ ready0) (length ready0) shards (job ∷ ready) (length ready) shards' (job' ∷ ready') (length ready') sofar.falls t.0.falls;
     }
 
-    pub slice_is_over : (shards' : List (ShardState Task)) (ready' : List Task) → Turns run seeds shards ready job turn.Left shards' ready' → Leaves run seeds shards0 ready0 job0 shards' ready' (length ready')
+    pub slice_is_over : (shards' : List (ShardState Task)) (ready' : List Task) → CarriesOn run seeds shards ready job progress.Left shards' ready' → Leaves run seeds shards0 ready0 job0 shards' ready' (length ready')
     slice_is_over shards' ready' t = record {
       runs = t.runs;
       settled = t.settled;
       grows = λ l g. t.grows l (sofar.grows l g);
       falls = falls_further shards0 (job0 ∷ ready0) (length ready0) shards (job ∷ ready) (length ready) shards' ready' (length ready') sofar.falls t.falls;
     }
-
-    pub slice_ends : (e : End) (shards' : List (ShardState Task)) (ready' : List Task) → Turns run seeds shards ready job (turn.Ended e) shards' ready' → Ended run seeds shards' e × Grows run seeds shards0 shards'
-    slice_ends e shards' ready' t = (t.0, λ l g. t.1 l (sofar.grows l g))
 
 -- stamps, and for each all turns; and the turns that are left
 pub slice_smaller : (limit s s' t t' : ℕ) → (s' < s) ⊎ ((s' ≡ s) × (limit - t' < limit - t)) → s' * (limit + 1) + (limit - t') < s * (limit + 1) + (limit - t)
@@ -93,9 +87,9 @@ module _ (run : Run) (seeds : Seeds) (shards : List (ShardState Task)) (ready : 
 
 -- ---- as the code finds it
 
--- a turn by its answer
-pub turn_at : (run : Run) (seeds : Seeds) (shards : List (ShardState Task)) (ready : List Task) (job : Task) (shards' : List (ShardState Task)) (ready' : List Task) (t u : Turn) → t ≡ u → Turns run seeds shards ready job t shards' ready' → Turns run seeds shards ready job u shards' ready'
-turn_at run seeds shards ready job shards' ready' t u e x = subst (λ v. Turns run seeds shards ready job v shards' ready') e x
+-- a step by its answer
+pub progress_at : (run : Run) (seeds : Seeds) (shards : List (ShardState Task)) (ready : List Task) (job : Task) (shards' : List (ShardState Task)) (ready' : List Task) (t u : Progress) → t ≡ u → CarriesOn run seeds shards ready job t shards' ready' → CarriesOn run seeds shards ready job u shards' ready'
+progress_at run seeds shards ready job shards' ready' t u e x = subst (λ v. CarriesOn run seeds shards ready job v shards' ready') e x
 
 module _ (run : Run) (seeds : Seeds) (shards : List (ShardState Task)) (ready : List Task) (job : Task) (ready1 : List Task) (picked : IsPermutation ready (job ∷ ready1)) (shards1 : List (ShardState Task)) (same : shards1 ≡ shards) where
   pub picked_now : Runs run seeds shards ready → Runs run seeds shards1 (job ∷ ready1)
@@ -107,9 +101,3 @@ module _ (run : Run) (seeds : Seeds) (shards : List (ShardState Task)) (ready : 
 -- what the logs have grown from, through what changes no shard
 pub grows_through : (run : Run) (seeds : Seeds) (shards0 shards shards1 shards' : List (ShardState Task)) → Grows run seeds shards0 shards → shards1 ≡ shards → Grows run seeds shards1 shards' → Grows run seeds shards0 shards'
 grows_through run seeds shards0 shards shards1 shards' a e b l g = b l (subst (λ s. Grows run seeds shards0 s) (sym e) a l g)
-
--- one is taken out of the list
-pub taken_out : {X : Type 0} (xs : List X) (i : ℕ) (x y : X) (ys : List X) → slice_get xs i ≡ Some y → x ≡ y → ys ≡ remove xs i → IsPermutation xs (x ∷ ys)
-taken_out xs i x y ys e p q =
-    let there : slice_get xs i ≡ Some x = e ∙ ap (λ z. Some z) (sym p) in
-    subst (λ l. IsPermutation xs (x ∷ l)) (sym q) (IsPermutation-remove xs i x (slice_get_within xs i x there) (sym (get_or_from_slice_get xs i x x there)))

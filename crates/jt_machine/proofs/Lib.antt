@@ -6,7 +6,7 @@ pub mod Waking
 pub mod Entering
 pub mod Following
 pub mod Serving
-pub mod Turning
+pub mod Advancing
 pub mod Falling
 pub mod Deadlocked
 pub mod Starting

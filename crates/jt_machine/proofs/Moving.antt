@@ -1,5 +1,5 @@
 -- Jobs that move between one shard's line and those that don't wait.
-use Rattle.std.proofs.Common.{◌≡◌, ℕ, List, ◌∷◌, ◌++◌, Some, refl, sym, ◌∙◌, subst, map, set}
+use Rattle.std.proofs.Common.{◌≡◌, ℕ, List, ◌∷◌, ◌++◌, Some, refl, sym, ap, ◌∙◌, subst, map, set}
 use Rattle.std.specs.Prelude.{slice_get}
 use Rattle.std.specs.List.{All}
 use Rattle.std.specs.List.Sorted.{IsPermutation}
@@ -14,7 +14,7 @@ use Rattle.jt_shard.specs.Shards.{ShardState, IsSettled}
 use Rattle.jt_meaning.specs.declared.start.Start.{Start}
 use Rattle.jt_meaning.specs.Run.{Run}
 use Rattle.jt_step.specs.Tasks.{Task, told_of}
-use Rattle.jt_machine.specs.Machines.{logs_of, waiting_in, AreSettled, SettledBut, IsJob, IsWaiting, IsShard, MainGoesOn, Runs, jobs_in}
+use Rattle.jt_machine.specs.Machines.{logs_of, waiting_in, AreSettled, SettledBut, IsJob, IsWaiting, IsShard, main_end_in, Runs, jobs_in}
 use Rattle.jt_machine.specs.Runs.{world_of}
 use Rattle.jt_machine.proofs.Shelf.{jobs_of, set_each, logs_same, jobs_moved}
 
@@ -42,7 +42,7 @@ module _ (run : Run) (seeds : Seeds) (shards : List (ShardState Task)) (k : ℕ)
         each_job = m.each_job;
         holds = subst (λ ls. Holds Start (world_of run seeds) ls (map told_of (jobs' ++ waiting_in (set shards k s')))) (sym logs)
             (moved_keeps Start (world_of run seeds) (logs_of shards) (map told_of (jobs ++ waiting_in shards)) (map told_of (jobs' ++ waiting_in (set shards k s'))) moved r.holds);
-        goes_on = subst MainGoesOn (sym logs) r.goes_on;
+        goes_on = ap main_end_in logs ∙ r.goes_on;
       }
 
   -- no job came or went

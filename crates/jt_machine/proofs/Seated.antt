@@ -1,5 +1,5 @@
 -- A task's seat: main is bound to worker 0, and another task may go to each worker of the default pool.
-use Rattle.std.proofs.Common.{◌≡◌, ℕ, ◌<◌, ◌≤◌, ◌⊎◌, inl, inr, List, [], ◌∷◌, ◌++◌, Option, Some, None, true, ◌&&◌, cond, refl, sym, ap, ◌∙◌, subst, reverse, map}
+use Rattle.std.proofs.Common.{◌≡◌, ℕ, ◌≤◌, ◌⊎◌, inl, inr, List, [], ◌∷◌, ◌++◌, Option, Some, None, true, ◌&&◌, cond, refl, sym, ap, ◌∙◌, subst, reverse, map}
 use Rattle.std.proofs.lemmas.Bool.{lt-ltb}
 use Rattle.jt_base.specs.declared.entry.Entry.{Entry}
 use Rattle.jt_base.specs.declared.operation.How.TheVariants.{Default, Interactive, Async, Chunk}
@@ -93,7 +93,7 @@ module _ (run : Run) (seeds : Seeds) (h : List Entry) (legal : IsLegalHistory St
   task_ops : (x : Entry) → In x h → IsTaskOp x.op
   task_ops x i =
       let f = (history_kept Start (world_of run seeds) h legal).fits x i in
-      law.task_operation run.program run.limits.turns x.task f.birth.start (map reply_of (of_task x.task (below x.stamp h))) x.op f.comes
+      law.task_operation run x.task f.birth.start (map reply_of (of_task x.task (below x.stamp h))) x.op f.comes
 
   born_plain : (p : List ℕ) (b : Birth Start) → birth_of Start (world_of run seeds) h p ≡ Some b → IsPlain (first_seat run.sizes b.maker)
   born_plain p b q = or_else (made_at Start (world_of run seeds) (λ task. of_task task h) (reverse p) b q)

@@ -1,5 +1,5 @@
 -- A shard is asked a job's operation.
-use Rattle.std.proofs.Common.{◌≡◌, ℕ, ◌+◌, ◌<◌, inl, inr, List, [], ◌∷◌, ◌++◌, Some, None, true, false, max, refl, sym, ap, ◌∙◌, subst, arith, length, map, get_or, set}
+use Rattle.std.proofs.Common.{◌≡◌, ℕ, ◌+◌, ◌<◌, inl, inr, List, [], ◌∷◌, ◌++◌, Some, None, false, max, refl, sym, ap, ◌∙◌, subst, arith, length, map, get_or, set}
 use Rattle.std.specs.Prelude.{slice_get}
 use Rattle.std.specs.List.{All}
 use Rattle.std.specs.List.Sorted.{IsPermutation}
@@ -18,20 +18,20 @@ use Rattle.jt_laws.specs.Seats.{may_work}
 use Rattle.jt_histories.specs.Jobs.{last_entry}
 use Rattle.jt_histories.proofs.Orders.{shard_small}
 use Rattle.jt_shard.specs.Calls.{Enters, MeetsLimit, Parks}
-use Rattle.jt_shard.specs.Serving.{serves}
 use Rattle.jt_shard.specs.Shards.{ShardState, object_for, reply_now, next_entry, next_stamp, MustWait, IsSettled, HasRoom}
 use Rattle.jt_meaning.specs.declared.start.Start.{Start}
 use Rattle.jt_meaning.specs.Run.{Run}
-use Rattle.jt_meaning.specs.Next.{next_in}
+use Rattle.jt_meaning.specs.Next.{next_operation}
 use Rattle.jt_step.specs.Tasks.{Task, ComesAfter, told_of, coming, coming_with}
 use Rattle.jt_machine.specs.declared.run.End.TheVariants as end
-use Rattle.jt_machine.specs.declared.turn.Follows.{Follows}
-use Rattle.jt_machine.specs.declared.turn.Follows.TheVariants as follows
-use Rattle.jt_machine.specs.declared.turn.Turn.{Turn}
-use Rattle.jt_machine.specs.declared.turn.Turn.TheVariants as turn
+use Rattle.jt_machine.specs.declared.progress.Follows.{Follows}
+use Rattle.jt_machine.specs.declared.progress.Follows.TheVariants as follows
+use Rattle.jt_machine.specs.declared.progress.Progress.{Progress}
+use Rattle.jt_machine.specs.declared.progress.Progress.TheVariants as progress
 use Rattle.jt_machine.specs.Machines.{logs_of, waiting_in, AreSettled, SettledBut, IsJob, IsWaiting, Runs, Ended, Falls, Grows, stamps_left, jobs_in}
-use Rattle.jt_machine.specs.Runs.{world_of, worker_of, Grown}
-use Rattle.jt_machine.specs.Turns.{IsNext, Asks, left_by, Replied, Followed, Leaves, Serves}
+use Rattle.jt_machine.specs.Runs.{world_of, worker_of, GrownByWorkers}
+use Rattle.jt_machine.specs.Operations.{IsNext, Asks, left_by, Replied, Followed}
+use Rattle.jt_machine.specs.Advancing.{Leaves, Serves}
 use Rattle.jt_machine.proofs.Shelf.{jobs_of, get_set_same, set_twice, log_at, logs_same, waiting_same, stamps_set, room_of}
 use Rattle.jt_machine.proofs.Moving.{Moves, moved_runs, moved_count, settled_set, settled_but, job_replaced}
 use Rattle.jt_machine.proofs.Waking.{shard_read}
@@ -70,12 +70,11 @@ module _ (run : Run) (t u : Task) (told : told_of u ≡ told_of t) (same_run : u
   pub asks_same : (o : Op) (f : Follows) → Asks run t o f → Asks run u o f
   asks_same o f a =
       record {
-        serves = a.serves;
         follows = next_bare run o u f (subst (λ v. IsNext run v o f) (sym same_bare) (bare_next run o t f a.follows));
         goes_on = λ r c. subst (λ (v : Task). ComesAfter (ends o) (coming_with v r)) (sym same_bare) (a.goes_on r c);
       }
 
--- ---- one turn
+-- ---- one step
 
 module _ (run : Run) (seeds : Seeds) (shards : List (ShardState Task)) (ready : List Task) (job : Task) (o : Op) (f : Follows) (k : ℕ)
     (runs : Runs run seeds shards (job ∷ ready)) (settled : AreSettled shards) (asks : Asks run job o f) (here : k ≡ shard_of_object (object_for told_of job o))
@@ -129,7 +128,7 @@ module _ (run : Run) (seeds : Seeds) (shards : List (ShardState Task)) (ready : 
     count_now = ap (λ l. length ((job1 ∷ ready) ++ l)) (waiting_same shards k s0 s1 at0 (ap (λ (t : ShardState Task). t.waiting) kept))
 
     grows_now : Grows run seeds shards (set shards k s1)
-    grows_now from g = subst (Grown Start (world_of run seeds) from) (sym (logs_same shards k s0 s1 at0 (ap (λ (t : ShardState Task). t.log) kept))) g
+    grows_now from g = subst (GrownByWorkers Start (world_of run seeds) from) (sym (logs_same shards k s0 s1 at0 (ap (λ (t : ShardState Task). t.log) kept))) g
 
     here_now : shard_of_object (object_for told_of job1 o) ≡ k
     here_now = ap (λ (d : Held Start). shard_of_object (object_of d.path o)) told ∙ sym here
@@ -175,16 +174,16 @@ module _ (run : Run) (seeds : Seeds) (shards : List (ShardState Task)) (ready : 
 
           done_grows : (shards3 : List (ShardState Task)) → logs_of shards3 ≡ logs_of (set (set shards k s1) k s2) → Grows run seeds shards shards3
           done_grows shards3 e from g =
-              subst (Grown Start (world_of run seeds) from) (sym e)
+              subst (GrownByWorkers Start (world_of run seeds) from) (sym e)
               (entry_grows run seeds (set shards k s1) ready job1 o f k s1 s2 job2 reply runs_now asks_now at1 here_now worker by_now enters_now run2 from (grows_now from g))
 
-          pub done_turns : (t : Turn) (shards3 : List (ShardState Task)) (ready3 : List Task) → Followed run seeds (set (set shards k s1) k s2) ready job2 f t shards3 ready3 → Serves run seeds shards ready job t shards3 ready3
-          done_turns (turn.GoesOn job3) shards3 ready3 g = (
+          pub done_serves : (t : Progress) (shards3 : List (ShardState Task)) (ready3 : List Task) → Followed run seeds (set (set shards k s1) k s2) ready job2 f t shards3 ready3 → Serves run seeds shards ready job t shards3 ready3
+          done_serves (progress.GoesOn job3) shards3 ready3 g = (
             record { runs = g.1.runs; settled = g.1.settled; grows = done_grows shards3 g.1.logs; falls = falls shards3 (job3 ∷ ready3) (length ready3) g.1.stamps g.1.count },
             further shards3 (job3 ∷ ready3) g.1.stamps,
           )
-          done_turns turn.Left shards3 ready3 g = record { runs = g.runs; settled = g.settled; grows = done_grows shards3 g.logs; falls = falls shards3 ready3 (length ready3) g.stamps g.count }
-          done_turns (turn.Ended e) shards3 ready3 g = (g.0, done_grows shards3 g.1)
+          done_serves progress.Left shards3 ready3 g = record { runs = g.runs; settled = g.settled; grows = done_grows shards3 g.logs; falls = falls shards3 ready3 (length ready3) g.stamps g.count }
+          done_serves (progress.Ended e) shards3 ready3 g = (g.0, done_grows shards3 g.1)
 
         -- ---- it isn't, and nothing changed
 
@@ -204,7 +203,7 @@ module _ (run : Run) (seeds : Seeds) (shards : List (ShardState Task)) (ready : 
               inl refl,
               record {
                 task = refl;
-                comes = subst (λ r. op_of (next_in r job1.path job1.start (map note_reply job1.log)) ≡ Some o) job_now.of_run (asked run job1 o f asks_now.follows);
+                comes = subst (λ r. op_of (next_operation r job1.path job1.start (map note_reply job1.log)) ≡ Some o) job_now.of_run (asked run job1 o f asks_now.follows);
                 allowed = ap (λ l. reply_after (of_object (object_for told_of job1 o) l) job1.path o) (log_here ∙ sym (ap (λ (t : ShardState Task). t.log) same)) ∙ m.allowed.1;
                 works = ap (may_work run.sizes job1.seat) by_now ∙ job_works run seeds (logs_of (set shards k s1)) (map told_of ((job1 ∷ ready) ++ waiting_in (set shards k s1))) runs.worker runs_now.holds (told_of job1) (inl refl);
                 beyond = beyond m;
@@ -221,8 +220,8 @@ module _ (run : Run) (seeds : Seeds) (shards : List (ShardState Task)) (ready : 
                   (subst (λ n. n < next_stamp told_of s1.log job1) (runs_now.each_shard k s1 at1).events
                   (subst (λ (t : ShardState Task). t.events < next_stamp told_of t.log job1) same m.beyond))
 
-          pub limit_turns : (given : Op) → MeetsLimit told_of s job1 o given s2 job2 → Ended run seeds (set (set shards k s1) k s2) end.EventLimit × Grows run seeds shards (set (set shards k s1) k s2)
-          limit_turns given m = (limit_ends given m, subst (Grows run seeds shards) (sym still) grows_now)
+          pub limit_serves : (given : Op) → MeetsLimit told_of s job1 o given s2 job2 → Ended run seeds (set (set shards k s1) k s2) end.EventLimit × Grows run seeds shards (set (set shards k s1) k s2)
+          limit_serves given m = (limit_ends given m, subst (Grows run seeds shards) (sym still) grows_now)
 
           -- the job waits
           module _ (given : Op) (op_same : given ≡ o) (s3 : ShardState Task) (parks : Parks told_of s1 job1 o s3) (settled3 : IsSettled told_of s3) where
@@ -243,8 +242,8 @@ module _ (run : Run) (seeds : Seeds) (shards : List (ShardState Task)) (ready : 
                       (IsPermutation-append_right ready (job1 ∷ jobs_of s1.waiting) (jobs_of s3.waiting) (IsPermutation-map (λ (v : Task × Op). v.0) ((job1, o) ∷ s1.waiting) s3.waiting parks.waiting));
                 }
 
-            pub park_turns : Leaves run seeds shards ready job (set (set (set shards k s1) k s2) k s3) ready (length ready)
-            park_turns =
+            pub park_leaves : Leaves run seeds shards ready job (set (set (set shards k s1) k s2) k s3) ready (length ready)
+            park_leaves =
                 let now : set (set (set shards k s1) k s2) k s3 ≡ set (set shards k s1) k s3 = ap (λ l. set l k s3) still in
                 let rooms : room_of s3 ≡ room_of s1 = ap room_of parks.kept in
                 let sums = stamps_set (set shards k s1) k s1 s3 at1 in
@@ -254,7 +253,7 @@ module _ (run : Run) (seeds : Seeds) (shards : List (ShardState Task)) (ready : 
                 subst (λ l. Leaves run seeds shards ready job l ready (length ready)) (sym now) (record {
                   runs = moved_runs run seeds (set shards k s1) k s1 s3 (job1 ∷ ready) ready runs_now at1 moves;
                   settled = settled_set (set shards k s1) k s3 (λ j t e n. settled_now j t e) settled3;
-                  grows = λ from g. subst (Grown Start (world_of run seeds) from) (sym (logs_same (set shards k s1) k s1 s3 at1 (ap (λ (t : ShardState Task). t.log) parks.kept))) (grows_now from g);
+                  grows = λ from g. subst (GrownByWorkers Start (world_of run seeds) from) (sym (logs_same (set shards k s1) k s1 s3 at1 (ap (λ (t : ShardState Task). t.log) parks.kept))) (grows_now from g);
                   falls = record { total = omega (arith, stamps, count); fewer = inr (stamps, omega arith) };
                 })
 
@@ -267,9 +266,6 @@ module _ (run : Run) (seeds : Seeds) (shards : List (ShardState Task)) (ready : 
                 let there = get_set_same (set shards k s1) k s1 s2 at1 in
                 let both : Some s4 ≡ Some s2 = sym (shard_read (set (set shards k s1) k s2) k s4 inside read4) ∙ there in
                 let one : s4 ≡ s2 = cc in one ∙ shard2 ∙ same
-
-            pub park_serves : serves given ≡ true
-            park_serves = ap serves op_same ∙ asks.serves
 
             pub park_here : shard_of_object (object_for told_of job2 given) ≡ s4.number
             park_here =
@@ -289,6 +285,6 @@ module _ (run : Run) (seeds : Seeds) (shards : List (ShardState Task)) (ready : 
 
             pub park_by : (s3 : ShardState Task) → Parks told_of s4 job2 given s3 → (IsSettled told_of s4 → IsSettled told_of s3) → Leaves run seeds shards ready job (set (set (set shards k s1) k s2) k s3) ready (length ready)
             park_by s3 p w =
-                park_turns given op_same s3
+                park_leaves given op_same s3
                 (subst (λ t. Parks told_of t job1 o s3) same4 (subst (λ t. Parks told_of s4 t o s3) same2 (subst (λ x. Parks told_of s4 job2 x s3) op_same p)))
                 (w (subst (IsSettled told_of) (sym same4) own_settled))

@@ -1,5 +1,5 @@
 -- The machine at the beginning.
-use Rattle.std.proofs.Common.{◌≡◌, ℕ, zero, suc, ◌<◌, ◌≤◌, ◌⊎◌, inl, inr, List, [], ◌∷◌, ◌++◌, Some, refl, sym, ap, ◌∙◌, subst, arith, length, get_or, replicate}
+use Rattle.std.proofs.Common.{◌≡◌, ℕ, zero, suc, ◌<◌, ◌⊎◌, inl, inr, List, [], ◌∷◌, ◌++◌, Some, refl, sym, ap, ◌∙◌, subst, arith, length, get_or, replicate}
 use Rattle.std.specs.Prelude.{slice_get}
 use Rattle.std.proofs.lemmas.List.{length_push}
 use Rattle.std.proofs.lemmas.List.Elements.{All-nil, All-cons}
@@ -11,13 +11,14 @@ use Rattle.jt_base.specs.Coming.{op_of}
 use Rattle.jt_laws.specs.Entries.{In}
 use Rattle.jt_histories.proofs.Start.{holds_start}
 use Rattle.jt_histories.proofs.Lists.{or_else}
-use Rattle.jt_shard.specs.Shards.{ShardState, empty_shard, IsSettled, MustWait}
+use Rattle.jt_shard.specs.Shards.{ShardState, empty_shard, MustWait}
+use Rattle.jt_shard.specs.Runs as of
 use Rattle.jt_meaning.specs.declared.start.Start.{Start}
 use Rattle.jt_step.specs.Laws as law
 use Rattle.jt_meaning.specs.Run.{Run}
-use Rattle.jt_meaning.specs.Next.{main_start}
+use Rattle.jt_meaning.specs.Next.{next_operation, main_start}
 use Rattle.jt_step.specs.Tasks.{Task, told_of, new_task}
-use Rattle.jt_machine.specs.Machines.{first_shards, logs_of, AreSettled, IsJob, IsWaiting, IsShard, Runs}
+use Rattle.jt_machine.specs.Machines.{first_shards, logs_of, IsJob, IsWaiting, run_of_job, Resumes}
 use Rattle.jt_machine.specs.Runs.{world_of}
 use Rattle.jt_machine.proofs.Entering.{body_at}
 
@@ -45,31 +46,23 @@ none_in (suc n) (suc k) x i = none_in n k x i
 pub none_begun : (events k : ℕ) (x : Entry) → In x (get_or (logs_of (first_shards 16 events)) k []) → ⊥
 none_begun events k x i = none_in 16 k x i
 
-module _ (run : Run) (seeds : Seeds) (main : Task) (made : main ≡ new_task run [] (main_start seeds) pool.Default) (worker : 1 ≤ run.sizes.default) (bodies : 0 < length run.program.tasks) where
+module _ (run : Run) (seeds : Seeds) (main : Task) (made : main ≡ new_task run [] (main_start seeds) pool.Default) (bodies : 0 < length run.program.tasks) where
   main_job : IsJob run (new_task run [] (main_start seeds) pool.Default)
   main_job = let b = body_at run.program.tasks 0 bodies in record {
     of_run = refl;
-    comes = (op.Begin, ap op_of (law.begins run.program run.limits.turns [] (main_start seeds) b.0 b.1));
+    comes = (op.Begin, ap op_of (law.begins run [] (main_start seeds) b.0 b.1));
   }
 
-  pub begun_runs : Runs run seeds (first_shards 16 run.limits.events) (main ∷ [])
-  begun_runs = subst (λ t. Runs run seeds (first_shards 16 run.limits.events) (t ∷ [])) (sym made) (record {
+  pub begun_resumes : Resumes run seeds (first_shards 16 run.limits.events) (main ∷ [])
+  begun_resumes = subst (λ t. Resumes run seeds (first_shards 16 run.limits.events) (t ∷ [])) (sym made) (record {
     sixteen = refl;
-    worker = worker;
-    each_shard = λ k s e. subst (IsShard run k) (first_at 16 run.limits.events k s e) (record { number = refl; events = refl; waiting = All-nil (IsWaiting run k) });
+    each_shard = λ k s e. subst (of.IsSettledShard told_of run_of_job next_operation run run.limits.events k) (first_at 16 run.limits.events k s e) (record { shard = record { number = refl; events = refl; waiting = All-nil (IsWaiting run k) }; settled = All-nil (MustWait told_of []) });
     each_job = All-cons (IsJob run) (new_task run [] (main_start seeds) pool.Default) [] main_job (All-nil (IsJob run));
     holds = holds_start Start (world_of run seeds);
-    goes_on = λ k x i. absurd (none_begun run.limits.events k x i);
   })
 
-pub begun_settled : (events : ℕ) → AreSettled (first_shards 16 events)
-begun_settled events k s e = subst (λ (t : ShardState Task). IsSettled told_of t) (first_at 16 events k s e) (All-nil (MustWait told_of []))
-
 -- as the code finds it
-pub begun : (run : Run) (seeds : Seeds) (shards : List (ShardState Task)) (ready : List Task) (main : Task) → main ≡ new_task run [] (main_start seeds) pool.Default → 1 ≤ run.sizes.default → 0 < length run.program.tasks
-    → shards ≡ first_shards 16 run.limits.events → ready ≡ main ∷ [] → Runs run seeds shards ready
-begun run seeds shards ready main made worker bodies s r =
-    subst (λ l. Runs run seeds l ready) (sym s) (subst (Runs run seeds (first_shards 16 run.limits.events)) (sym r) (begun_runs run seeds main made worker bodies))
-
-pub begun_at_rest : (shards : List (ShardState Task)) (events : ℕ) → shards ≡ first_shards 16 events → AreSettled shards
-begun_at_rest shards events s = subst AreSettled (sym s) (begun_settled events)
+pub begun : (run : Run) (seeds : Seeds) (shards : List (ShardState Task)) (ready : List Task) (main : Task) → main ≡ new_task run [] (main_start seeds) pool.Default → 0 < length run.program.tasks
+    → shards ≡ first_shards 16 run.limits.events → ready ≡ main ∷ [] → Resumes run seeds shards ready
+begun run seeds shards ready main made bodies s r =
+    subst (λ l. Resumes run seeds l ready) (sym s) (subst (Resumes run seeds (first_shards 16 run.limits.events)) (sym r) (begun_resumes run seeds main made bodies))

@@ -14,7 +14,7 @@ use Rattle.jt_shard.specs.Calls.{Wakes, WakesNext}
 use Rattle.jt_meaning.specs.Run.{Run}
 use Rattle.jt_step.specs.Tasks.{Task, told_of}
 use Rattle.jt_machine.specs.Machines.{logs_of, waiting_in, AreSettled, SettledBut, IsJob, IsWaiting, Runs, stamps_left, jobs_in}
-use Rattle.jt_machine.specs.Turns.{WakesSome, WakesAll, GoesAfter}
+use Rattle.jt_machine.specs.Operations.{WakesSome, WakesAll, GoesAfter}
 use Rattle.jt_machine.proofs.Shelf.{jobs_of, All-front, All-back, get_set_same, set_twice, set_itself, logs_same, waiting_count, stamps_set, room_of}
 use Rattle.jt_machine.proofs.Moving.{Moves, moved_runs, moved_count, settled_set}
 

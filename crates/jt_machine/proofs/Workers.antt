@@ -1,6 +1,5 @@
 -- Each further entry of the logs is made by its task's worker.
 use Rattle.std.proofs.Common.{◌≡◌, ℕ, ◌<◌, ◌≤◌, inl, inr, List, [], ◌∷◌, ◌++◌, Some, true, false, refl, sym, ap, ◌∙◌, subst, arith, nat_eq, nat_lt, reverse, length, get_or, set, append_assoc}
-use Rattle.std.specs.Prelude.{filter}
 use Rattle.std.proofs.lemmas.Bool.{eq-eqb, eqb-true, eqb-false}
 use Rattle.std.proofs.lemmas.List.{append-nil, get_or-set_same, get_or-set_other}
 use Rattle.std.proofs.lemmas.List.Elements.{filter-append}
@@ -21,7 +20,7 @@ use Rattle.jt_histories.proofs.Orders.{shard_small, key_later, insert_other, ins
 use Rattle.jt_histories.proofs.Placed.{Entered, one_entry, stamp_next}
 use Rattle.jt_histories.proofs.Resting.{cut_front, cut_is_legal}
 use Rattle.jt_histories.proofs.Stamped.{unseen, all_below, part_below, later_task, history_kept}
-use Rattle.jt_machine.specs.Runs.{worker_of, IsByItsWorker, AllByWorkers, FurtherByWorkers, Grown}
+use Rattle.jt_machine.specs.Runs.{worker_of, IsByItsWorker, AllByWorkers, FurtherByWorkers, GrownByWorkers}
 
 both : (a b p : List ℕ) → same_path a p ≡ true → same_path b p ≡ true → same_path a b ≡ true
 both a b p x y = ap (λ q. same_path q b) (same_equal a p x ∙ sym (same_equal b p y)) ∙ same_itself b
@@ -85,7 +84,7 @@ module _ (S : Type 0) (w : World S) (laws : Laws S w) (logs : List (List Entry))
   small : shard e < length logs
   small = let s = shard_small (object e) in let l = holds.sixteen in omega (arith, s, l)
 
-  pub grown_more : (from : List (List Entry)) → Grown S w from logs → Grown S w from longer_logs
+  pub grown_more : (from : List (List Entry)) → GrownByWorkers S w from logs → GrownByWorkers S w from longer_logs
   grown_more from g =
       record {
         begins = λ k. by_test (nat_eq (shard e) k) (λ y. own k (eqb-true (shard e) k y)) (λ n. other k n);
@@ -119,7 +118,7 @@ module _ (S : Type 0) (w : World S) (laws : Laws S w) (logs : List (List Entry))
 pub log_has : (logs : List (List Entry)) (h : List Entry) → IsMerge logs h → (x : Entry) → In x h → In x (get_or logs (shard x) [])
 log_has logs h m x i = subst (In x) (m.logged (shard x)) (in_filter (λ y. nat_eq (shard y) (shard x)) x h i (eq-eqb (shard x) (shard x) refl))
 
-pub grown_none : (S : Type 0) (w : World S) (logs : List (List Entry)) → Grown S w logs logs
+pub grown_none : (S : Type 0) (w : World S) (logs : List (List Entry)) → GrownByWorkers S w logs logs
 grown_none S w logs = record { begins = λ k. ([], sym (append-nil (get_or logs k []))); workers = λ h m x i n. absurd (n (log_has logs h m x i)) }
 
 in_front : (x : Entry) (xs ys : List Entry) → In x xs → In x (xs ++ ys)

@@ -1,5 +1,5 @@
 -- The machine: the shards with the jobs that wait, and the jobs that don't.
-use Rattle.std.specs.Prelude.{◌≡◌, ℕ, zero, suc, ◌+◌, ◌-◌, ◌<◌, ◌≤◌, ◌⊎◌, List, [], ◌∷◌, ◌++◌, Some, true, false, map, length, get_or, slice_get}
+use Rattle.std.specs.Prelude.{◌≡◌, ℕ, zero, suc, ◌+◌, ◌-◌, ◌<◌, ◌≤◌, ◌⊎◌, List, [], ◌∷◌, ◌++◌, Option, Some, None, map, length, get_or, slice_get}
 use Rattle.std.specs.List.{All}
 use Rattle.jt_base.specs.declared.entry.Entry.{Entry}
 use Rattle.jt_base.specs.declared.operation.Op.{Op}
@@ -8,8 +8,8 @@ use Rattle.jt_base.specs.declared.run.Seeds.{Seeds}
 use Rattle.jt_base.specs.declared.value.Value.{Value}
 use Rattle.jt_base.specs.Jobs.{Held}
 use Rattle.jt_base.specs.Names as names
-use Rattle.jt_laws.specs.Entries.{shard, In}
-use Rattle.jt_laws.specs.Lines.{is_main_end}
+use Rattle.jt_laws.specs.Entries.{shard}
+use Rattle.jt_laws.specs.Lines.{main_end}
 use Rattle.jt_laws.specs.Histories.{World}
 use Rattle.jt_histories.specs.Jobs.{Has, Holds, last_entry}
 use Rattle.jt_histories.specs.Rest.{AllStuck, AtLimit}
@@ -18,12 +18,12 @@ use Rattle.jt_shard.specs.Runs as of
 use Rattle.jt_shard.specs.Shards.{ShardState, empty_shard, IsSettled}
 use Rattle.jt_meaning.specs.declared.start.Start.{Start}
 use Rattle.jt_meaning.specs.Run.{Run}
-use Rattle.jt_meaning.specs.Next.{next_in}
+use Rattle.jt_meaning.specs.Next.{next_operation}
 use Rattle.jt_step.specs.Tasks.{Task, told_of}
 use Rattle.jt_machine.specs.declared.run.End.{End}
 use Rattle.jt_machine.specs.declared.run.End.TheVariants.{Ok, MainFailed, Deadlock, EventLimit}
 use Rattle.jt_machine.specs.declared.setting.Setting.{Setting}
-use Rattle.jt_machine.specs.Runs.{world_of, Grown}
+use Rattle.jt_machine.specs.Runs.{world_of, GrownByWorkers}
 
 -- what the tasks have in common
 abbrev pub run_of : Setting → Run
@@ -53,52 +53,68 @@ SettledBut n shards = (k : ℕ) (s : ShardState Task) → slice_get shards k ≡
 
 -- ---- the jobs
 
-abbrev pub run_with : Task → Run
-run_with t = t.run
+abbrev pub run_of_job : Task → Run
+run_of_job t = t.run
 
 -- a job of the run, for which an operation comes next
 abbrev pub IsJob : Run → Task → Type 0
-IsJob = of.IsJob told_of run_with next_in
+IsJob = of.IsJob told_of run_of_job next_operation
 
 -- it waits with the operation that comes next, at the shard of the operation's object
 abbrev pub IsWaiting : Run → ℕ → Task × Op → Type 0
-IsWaiting = of.IsWaiting told_of run_with next_in
+IsWaiting = of.IsWaiting told_of run_of_job next_operation
 
 -- a shard of the run
 abbrev pub IsShard : Run → ℕ → ShardState Task → Type 0
-IsShard run = of.IsShard told_of run_with next_in run run.limits.events
+IsShard run = of.IsShard told_of run_of_job next_operation run run.limits.events
+
+-- ---- a run at one moment
+
+-- what it is given, its shards with the jobs that wait, and the jobs that are ready, in their order
+pub record RunState : Type 0 where
+  pub run : Run
+  pub seeds : Seeds
+  pub shards : List (ShardState Task)
+  pub ready : List Task
 
 -- ---- main's end
 
--- main hasn't ended
-abbrev pub MainGoesOn : List (List Entry) → Type 0
-MainGoesOn logs = (k : ℕ) (e : Entry) → In e (get_or logs k []) → is_main_end e ≡ false
-
--- main has ended by this operation
-pub record MainEnds (logs : List (List Entry)) (op : Op) : Type 0 where
-  pub only : (k : ℕ) (e : Entry) → In e (get_or logs k []) → is_main_end e ≡ true → e.op ≡ op
-  pub entry : Entry
-  pub there : In entry (get_or logs (shard entry) [])
-  pub ends : is_main_end entry ≡ true
+-- it stands in shard 0
+abbrev pub main_end_in : List (List Entry) → Option Op
+main_end_in logs = main_end (get_or logs 0 [])
 
 -- ---- the whole
 
--- amid the run; `jobs` are those that don't wait
+-- where a run may go on: its shards are settled, the ready jobs are of the run, and the shards' logs belong
+-- together with these and with those that wait
+pub record Resumes (run : Run) (seeds : Seeds) (shards : List (ShardState Task)) (ready : List Task) : Type 0 where
+  pub sixteen : length shards ≡ names.shards
+  pub each_shard : (k : ℕ) (s : ShardState Task) → slice_get shards k ≡ Some s → of.IsSettledShard told_of run_of_job next_operation run run.limits.events k s
+  pub each_job : All (IsJob run) ready
+  pub holds : Holds Start (world_of run seeds) (logs_of shards) (map told_of (ready ++ waiting_in shards))
+
+-- why a run ends by main's last operation
+abbrev pub end_by : Option Op → Option End
+end_by (Some (op.End value)) = Some Ok
+end_by (Some (op.Fail fault)) = Some (MainFailed fault)
+end_by o = None
+
+-- amid the run, while main goes on; `jobs` are those that don't wait
 pub record Runs (run : Run) (seeds : Seeds) (shards : List (ShardState Task)) (jobs : List Task) : Type 0 where
   pub sixteen : length shards ≡ names.shards
   pub worker : 1 ≤ run.sizes.default
   pub each_shard : (k : ℕ) (s : ShardState Task) → slice_get shards k ≡ Some s → IsShard run k s
   pub each_job : All (IsJob run) jobs
   pub holds : Holds Start (world_of run seeds) (logs_of shards) (map told_of (jobs ++ waiting_in shards))
-  pub goes_on : MainGoesOn (logs_of shards)
+  pub goes_on : main_end_in (logs_of shards) ≡ None
 
 -- why it ends, said of the shards' logs and of the jobs
 abbrev pub EndsBy : World Start → List (List Entry) → List (Held Start) → End → Type 0
-EndsBy world logs jobs Ok = (value : Value) × MainEnds logs (op.End value)
-EndsBy world logs jobs (MainFailed fault) = MainEnds logs (op.Fail fault)
-EndsBy world logs jobs Deadlock = MainGoesOn logs × AllStuck Start world logs jobs
+EndsBy world logs jobs Ok = (value : Value) × (main_end_in logs ≡ Some (op.End value))
+EndsBy world logs jobs (MainFailed fault) = main_end_in logs ≡ Some (op.Fail fault)
+EndsBy world logs jobs Deadlock = (main_end_in logs ≡ None) × AllStuck Start world logs jobs
 EndsBy world logs jobs EventLimit =
-    MainGoesOn logs × (j : Held Start) × (e : Entry) × Has Start j jobs × AtLimit Start world (get_or logs (shard e) []) j e
+    (main_end_in logs ≡ None) × (j : Held Start) × (e : Entry) × Has Start j jobs × AtLimit Start world (get_or logs (shard e) []) j e
 
 -- at the end of the run
 pub record Ended (run : Run) (seeds : Seeds) (shards : List (ShardState Task)) (end : End) : Type 0 where
@@ -127,4 +143,4 @@ pub record Falls (shards : List (ShardState Task)) (jobs : List Task) (ready : �
 -- whatever logs those of the first shards have grown from, those of the others have too
 abbrev pub Grows : Run → Seeds → List (ShardState Task) → List (ShardState Task) → Type 0
 Grows run seeds shards shards' =
-    (logs : List (List Entry)) → Grown Start (world_of run seeds) logs (logs_of shards) → Grown Start (world_of run seeds) logs (logs_of shards')
+    (logs : List (List Entry)) → GrownByWorkers Start (world_of run seeds) logs (logs_of shards) → GrownByWorkers Start (world_of run seeds) logs (logs_of shards')

@@ -10,13 +10,13 @@ use Rattle.jt_base.specs.declared.value.Value.{Value}
 use Rattle.jt_base.specs.Jobs.{Seat}
 use Rattle.jt_histories.specs.Merges.{IsMerge}
 use Rattle.jt_histories.specs.Rest.{AtRest, MeetsLimit}
-use Rattle.jt_laws.specs.Entries.{shard, of_task, below, In}
+use Rattle.jt_laws.specs.Entries.{shard, of_task, of_shard, below, In}
 use Rattle.jt_laws.specs.Seats.{seat_of}
 use Rattle.jt_laws.specs.Histories.{World, Birth, birth_of, IsLegalHistory}
 use Rattle.jt_laws.specs.Lines.{main_end, cut_at_main_end}
 use Rattle.jt_meaning.specs.declared.start.Start.{Start}
 use Rattle.jt_meaning.specs.Run as task
-use Rattle.jt_meaning.specs.Next.{main_start, next_in}
+use Rattle.jt_meaning.specs.Next.{main_start, next_operation}
 use Rattle.jt_machine.specs.declared.run.End.{End}
 use Rattle.jt_machine.specs.declared.run.End.TheVariants.{Ok, MainFailed, Deadlock, EventLimit}
 
@@ -27,7 +27,7 @@ one_worker = record { default = 1; interactive = 0 }
 -- what comes next for the tasks of a run, main's start, the workers and the limit on stamps
 abbrev pub world_of : task.Run → Seeds → World Start
 world_of run seeds = record {
-  next = next_in run;
+  next = next_operation run;
   main = main_start seeds;
   sizes = run.sizes;
   events = run.limits.events;
@@ -77,6 +77,17 @@ module _ (S : Type 0) (world : World S) where
 
   -- logs that have grown from these: each begins with what it was, and each further entry is made by its
   -- task's worker
-  pub record Grown (logs grown : List (List Entry)) : Type 0 where
+  pub record GrownByWorkers (logs grown : List (List Entry)) : Type 0 where
     pub begins : (k : ℕ) → (more : List Entry) × (get_or grown k [] ≡ get_or logs k [] ++ more)
     pub workers : (h : List Entry) → IsMerge grown h → FurtherByWorkers logs h
+
+-- ---- a run that goes on
+
+-- the cut of a legal history in which the entries of each shard begin with its log here, and each further one
+-- is made by its task's worker
+pub record GoesOnFrom (run : task.Run) (seeds : Seeds) (logs : List (List Entry)) (h : List Entry) : Type 0 where
+  pub all : List Entry
+  pub legal : IsLegalHistory Start (world_of run seeds) all
+  pub cut : h ≡ cut_at_main_end all
+  pub begins : (k : ℕ) → (more : List Entry) × (of_shard k all ≡ get_or logs k [] ++ more)
+  pub workers : FurtherByWorkers Start (world_of run seeds) logs h

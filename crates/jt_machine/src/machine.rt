@@ -1,272 +1,90 @@
-//! The one-thread machine: sixteen shards, and the jobs that are ready.
+//! The one-thread machine: a run amid its entries.
 
-ghost use Rattle.std.specs.Prelude.{◌≡◌, ◌<◌, ◌≤◌, List, [], ◌∷◌, true, length, MatchOption, IfOk, OnOk};
-ghost use Rattle.std.specs.List.Sorted.{IsPermutation};
-ghost use Rattle.jt_base.specs.declared.entry.Entry.{Entry as EntryOf};
-ghost use Rattle.jt_base.specs.Coming.{is_spawn};
-ghost use Rattle.jt_histories.specs.Kept.{made_path};
-ghost use Rattle.jt_histories.specs.Merges.{AreLogs, IsMerge};
-ghost use Rattle.jt_laws.specs.Lines.{cut_at_main_end};
-ghost use Rattle.jt_step.specs.Tasks.{new_task};
-ghost use Rattle.jt_machine.specs.Machines.{run_of, first_shards, logs_of, Runs, AreSettled, SettledBut, Ended, Grows};
-ghost use Rattle.jt_machine.specs.Runs.{worker_of};
-ghost use Rattle.jt_machine.specs.Turns.{Asks, Replied, Turns, Serves, Followed, WakesAll, Leaves};
+ghost use Rattle.std.specs.Prelude.{◌≡◌, ◌≤◌, IfOk};
+ghost use Rattle.jt_program.specs.View.{program_plan};
+ghost use Rattle.jt_machine.specs.Machines.{logs_of, Resumes};
+ghost use Rattle.jt_machine.specs.Runs.{IsRun, GoesOnFrom};
 
-use crate::run::End;
+use crate::ready::Ready;
+use crate::run::Run;
 use crate::setting::Setting;
-use crate::turn::{Follows, Turn, what_follows};
-use jt_base::{Entry, Job, Object, Op, OutOfMemory, Path, Picks, Pool, SHARDS, Sizes};
-use jt_histories::{cut_at_main_end, merge};
-use jt_meaning::Start;
-use jt_shard::{Applied, Shard};
-use jt_step::{Advance, TaskRun};
-use sqlite_items::Items;
+use crate::state::State;
+use jt_base::{Limits, OutOfMemory, Picks, Seeds, Sizes};
+use jt_program::Program;
+use jt_shard::Shard;
+use jt_step::TaskRun;
 use std::alloc::Global;
+use std::marker::Model;
 
-/// The shards with the jobs that wait, and the jobs that don't.
+/// A run that goes on by itself on one thread: its sixteen shards with the jobs that wait, and the jobs
+/// that are ready.
 #[derive(Drop)]
-pub(crate) struct Machine<'p> {
-    /// The k-th has the number k.
-    shards: Vec<Shard<TaskRun<'p>>>,
-    /// In the order in which they became ready.
-    ready: Items<TaskRun<'p>>,
+pub struct Machine<'p> {
+    setting: Setting<'p>,
+    state: State<'p>,
 }
 
-/// Sixteen shards without entries.
-fn empty_shards<'p>(alloc: Global, events: u32) -> Result<Vec<Shard<TaskRun<'p>>>, OutOfMemory>
-    ensures { IfOk result (λ shards. shards.items ≡ first_shards 16 events) }
-{
-    let mut shards = Vec::new(alloc);
-    for number in 0..SHARDS {
-        shards.push(Shard::new(alloc, number, events))?;
-    }
-    Ok(shards)
+impl<'p> Model for Machine<'p> {
+    ghost use Rattle.std.specs.Prelude.{◌≤◌};
+    ghost use Rattle.std.specs.Coded.{Coded, codes};
+    ghost use Rattle.jt_step.specs.Codes.{Label, coded_program};
+    ghost use Rattle.jt_machine.specs.Machines.{RunState, run_of, Resumes};
+
+    ghost Value = { RunState };
+
+    ghost coded = { let c : Coded Label = Prim.hlevel codes in Prim.hlevel (codes, coded_program c) };
+
+    ghost view = { λ m. record { run = run_of m.setting; seeds = m.setting.seeds; shards = m.state.shards.items; ready = m.state.ready } };
+
+    ghost invariant = { λ m. (1 ≤ m.setting.sizes.default) × Resumes (run_of m.setting) m.setting.seeds m.state.shards.items m.state.ready };
 }
 
 impl<'p> Machine<'p> {
-    /// The machine at the beginning: the main task is ready.
+    /// The machine in the middle of a run, or at its beginning: sixteen shards, the i-th with the number i
+    /// and each settled, and the jobs that are ready, in their order.
+    ///
+    /// # Errors
+    ///
+    /// Where memory is wanting. Today it takes none.
+    pub fn adopt(
+        alloc: Global,
+        program: &'p Program,
+        shards: Vec<Shard<TaskRun<'p>>>,
+        ready: Vec<TaskRun<'p>>,
+        seeds: &Seeds,
+        sizes: Sizes,
+        limits: &Limits,
+    ) -> Result<Machine<'p>, OutOfMemory>
+        requires worker { 1 ≤ sizes.default }
+        requires resumes { Resumes (record { program = program_plan program.now; sizes = sizes; limits = limits.now }) seeds.now shards.items ready.items }
+        ensures { IfOk result (λ m. m ≡ record { run = record { program = program_plan program.now; sizes = sizes; limits = limits.now }; seeds = seeds.now; shards = shards.entry.items; ready = ready.entry.items }) }
+    {
+        let ready = Ready::from_jobs(ready);
+        let setting = Setting {
+            alloc,
+            program,
+            seeds: *seeds,
+            sizes,
+            limits: *limits,
+        };
+        let state = State { shards, ready };
+        Ok(Machine { setting, state })
+    }
+
+    /// Goes on until main has ended or failed, no task can go on, or the limit on stamps is met. Which of
+    /// the jobs that are ready is next is said by the picks. Each entry is made by the worker to which its
+    /// task is bound, or by the first of its task's pool.
     ///
     /// # Errors
     ///
     /// Where memory is wanting.
-    pub(crate) fn start(setting: &Setting<'p>) -> Result<Machine<'p>, OutOfMemory>
-        requires main { 0 < length setting.now.program.now.tasks }
-        requires worker { 1 ≤ setting.now.sizes.default }
-        ensures runs { IfOk result (λ m. Runs (run_of setting.now) setting.now.seeds m.shards.items m.ready) }
-        ensures settled { IfOk result (λ m. AreSettled m.shards.items) }
-        ensures empty { IfOk result (λ m. m.shards.items ≡ first_shards 16 setting.now.limits.events) }
+    pub fn run(self, picks: Picks) -> Result<Run, OutOfMemory>
+        ensures run { IfOk result (λ run. IsRun self.entry.run self.entry.seeds run.history.items run.end) }
+        ensures goes_on { IfOk result (λ run. GoesOnFrom self.entry.run self.entry.seeds (logs_of self.entry.shards) run.history.items) }
     {
-        let shards = empty_shards(setting.alloc, setting.limits.events)?;
-        let start = Start::main(setting.alloc, &setting.seeds)?;
-        let main = TaskRun::start(
-            setting.alloc,
-            setting.program,
-            start,
-            Path::main(),
-            setting.sizes,
-            &setting.limits,
-            Pool::Default,
-        )?;
-        let mut ready = Items::new(setting.alloc);
-        ready.push(main)?;
-        Ok(Machine { shards, ready })
-    }
-
-    /// Runs the jobs that are ready, slice by slice, until the run ends.
-    ///
-    /// # Errors
-    ///
-    /// Where memory is wanting.
-    pub(crate) fn run(&mut self, setting: &Setting<'p>, picks: Picks) -> Result<End, OutOfMemory>
-        requires runs { Runs (run_of setting.now) setting.now.seeds self.old.shards.items self.old.ready }
-        requires settled { AreSettled self.old.shards.items }
-        ensures ended { IfOk result (λ end. Ended (run_of setting.now) setting.now.seeds self.new.shards.items end) }
-        ensures grows { IfOk result (λ end. Grows (run_of setting.now) setting.now.seeds self.old.shards.items self.new.shards.items) }
-    {
-        let mut picks = picks;
-        'slices: loop {
-            let Some(job) = self.pick(&mut picks) else {
-                return Ok(End::Deadlock);
-            };
-            if let Some(end) = self.slice(setting, job)? {
-                return Ok(end);
-            }
-        }
-    }
-
-    /// Takes one of the jobs that are ready, as the next word of the picks says. None where none is
-    /// ready.
-    fn pick(&mut self, picks: &mut Picks) -> Option<TaskRun<'p>>
-        ensures shards { self.new.shards ≡ self.old.shards }
-        ensures ready { MatchOption result ((self.old.ready ≡ []) × (self.new.ready ≡ [])) (λ job. IsPermutation self.old.ready (job ∷ self.new.ready)) }
-    {
-        let number = self.ready.len();
-        if number == 0 {
-            return None;
-        }
-        let most = u32::try_from(number).unwrap_or(u32::MAX);
-        let picked = picks.below(most) as usize;
-        Some(self.ready.remove(picked))
-    }
-
-    /// A job's slice: it goes on until it waits, yields, or its task is over. What the run comes to,
-    /// where it ends.
-    fn slice(&mut self, setting: &Setting<'p>, job: TaskRun<'p>) -> Result<Option<End>, OutOfMemory>
-        requires runs { Runs (run_of setting.now) setting.now.seeds self.old.shards.items (job ∷ self.old.ready) }
-        requires settled { AreSettled self.old.shards.items }
-        ensures { IfOk result (λ end. MatchOption end (Leaves (run_of setting.now) setting.now.seeds self.old.shards.items self.old.ready job.entry self.new.shards.items self.new.ready (length self.new.ready)) (λ e. Ended (run_of setting.now) setting.now.seeds self.new.shards.items e × Grows (run_of setting.now) setting.now.seeds self.old.shards.items self.new.shards.items)) }
-    {
-        let mut job = job;
-        'turns: loop {
-            match self.turn(setting, job)? {
-                Turn::GoesOn(same) => job = same,
-                Turn::Left => return Ok(None),
-                Turn::Ended(end) => return Ok(Some(end)),
-            }
-        }
-    }
-
-    /// A job goes on up to its next operation, or by as many turns as one advance can take.
-    fn turn(&mut self, setting: &Setting<'p>, job: TaskRun<'p>) -> Result<Turn<'p>, OutOfMemory>
-        requires runs { Runs (run_of setting.now) setting.now.seeds self.old.shards.items (job ∷ self.old.ready) }
-        requires settled { AreSettled self.old.shards.items }
-        ensures { IfOk result (λ turn. Turns (run_of setting.now) setting.now.seeds self.old.shards.items self.old.ready job.entry turn self.new.shards.items self.new.ready) }
-    {
-        let mut job = job;
-        match job.advance(u32::MAX)? {
-            Advance::More => Ok(Turn::GoesOn(job)),
-            Advance::Needs(op) => {
-                let follows = what_follows(setting.alloc, job.path(), &op)?;
-                self.serve(setting, job, op, follows)
-            }
-            Advance::Spawns(op, start) => {
-                let child = child(setting, &job, &op, start)?;
-                self.serve(setting, job, op, Follows::Makes(child))
-            }
-            Advance::Over => unreachable!(),
-        }
-    }
-
-    /// Asks the shard of a job's operation: the job waits there where the operation isn't allowed.
-    fn serve(
-        &mut self,
-        setting: &Setting<'p>,
-        job: TaskRun<'p>,
-        op: Op,
-        follows: Follows<'p>,
-    ) -> Result<Turn<'p>, OutOfMemory>
-        requires runs { Runs (run_of setting.now) setting.now.seeds self.old.shards.items (job ∷ self.old.ready) }
-        requires settled { AreSettled self.old.shards.items }
-        requires asks { Asks (run_of setting.now) job op follows }
-        ensures { IfOk result (λ turn. Serves (run_of setting.now) setting.now.seeds self.old.shards.items self.old.ready job.entry turn self.new.shards.items self.new.ready) }
-    {
-        let mut job = job;
-        let worker = worker_for(&job, setting.sizes);
-        let k = Object::of(job.path(), &op).shard() as usize;
-        self.shards[k].reserve(&mut job, &op)?;
-        match self.shards[k].apply(&mut job, op, worker) {
-            Applied::Done(_) => self.follow(setting, k, job, follows),
-            Applied::NotYet(op) => {
-                self.shards[k].park(job, op);
-                Ok(Turn::Left)
-            }
-            Applied::StampLimit(_) => Ok(Turn::Ended(End::EventLimit)),
-        }
-    }
-
-    /// An operation of a job has its reply: the jobs that it wakes become ready, and the job goes on
-    /// as it has to.
-    fn follow(
-        &mut self,
-        setting: &Setting<'p>,
-        k: usize,
-        job: TaskRun<'p>,
-        follows: Follows<'p>,
-    ) -> Result<Turn<'p>, OutOfMemory>
-        requires there { k < length self.old.shards.items }
-        requires replied { Replied (run_of setting.now) setting.now.seeds self.old.shards.items self.old.ready job follows }
-        requires settled { SettledBut k self.old.shards.items }
-        ensures { IfOk result (λ turn. Followed (run_of setting.now) setting.now.seeds self.old.shards.items self.old.ready job.entry follows.entry turn self.new.shards.items self.new.ready) }
-    {
-        self.wake(k)?;
-        match follows {
-            Follows::Ends(end) => Ok(Turn::Ended(end)),
-            Follows::Over => Ok(Turn::Left),
-            Follows::Yields => {
-                self.ready.push(job)?;
-                Ok(Turn::Left)
-            }
-            Follows::GoesOn => Ok(Turn::GoesOn(job)),
-            Follows::Makes(child) => {
-                self.ready.push(child)?;
-                Ok(Turn::GoesOn(job))
-            }
-        }
-    }
-
-    /// The waiting jobs of a shard whose operations are allowed become ready.
-    fn wake(&mut self, k: usize) -> Result<(), OutOfMemory>
-        requires { k < length self.old.shards.items }
-        ensures { OnOk result (WakesAll k self.old.shards.items self.old.ready self.new.shards.items self.new.ready) }
-    {
-        while let Some((woken, op)) = self.shards[k].next_woken() {
-            // the job tells it again
-            drop(op);
-            self.ready.push(woken)?;
-        }
-        Ok(())
-    }
-
-    /// The entries of all shards in the order of stamp, then shard, up to and with main's end.
-    pub(crate) fn into_history(self, alloc: Global) -> Result<Vec<Entry>, OutOfMemory>
-        requires { AreLogs (logs_of self.shards.items) }
-        ensures { IfOk result (λ h. (all : List EntryOf) × IsMerge (logs_of self.entry.shards.items) all × (h.items ≡ cut_at_main_end all)) }
-    {
-        let Machine { shards, ready: _ } = self;
-        let mut logs = Vec::new(alloc);
-        for shard in shards {
-            let (log, _jobs) = shard.into_parts();
-            logs.push(log)?;
-        }
-        let history = merge(alloc, logs)?;
-        Ok(cut_at_main_end(history))
-    }
-}
-
-/// The worker that makes a job's entries: the one to which it is bound, else the first of its pool.
-fn worker_for<'p>(job: &TaskRun<'p>, sizes: Sizes) -> u32
-    ensures { result ≡ worker_of sizes job.now.seat }
-{
-    match job.bound() {
-        Some(worker) => worker,
-        None => match job.pool() {
-            Pool::Default => 0,
-            Pool::Interactive => sizes.default,
-        },
-    }
-}
-
-/// The task that a job's spawn makes.
-fn child<'p>(
-    setting: &Setting<'p>,
-    job: &TaskRun<'p>,
-    op: &Op,
-    start: Start,
-) -> Result<TaskRun<'p>, OutOfMemory>
-    requires spawn { is_spawn op.now ≡ true }
-    requires body { start.code < length setting.now.program.now.tasks }
-    ensures { IfOk result (λ child. child ≡ new_task (run_of setting.now) (made_path op.now) start job.now.seat.pool) }
-{
-    match op {
-        Op::Spawn(path, _) => TaskRun::start(
-            setting.alloc,
-            setting.program,
-            start,
-            path.copy(),
-            setting.sizes,
-            &setting.limits,
-            job.pool(),
-        ),
-        _ => unreachable!(),
+        let Machine { setting, mut state } = self;
+        let end = state.go_on(&setting, picks)?;
+        let history = state.into_history(setting.alloc)?;
+        Ok(Run { history, end })
     }
 }

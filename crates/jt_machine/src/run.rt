@@ -2,13 +2,15 @@
 
 ghost use Rattle.std.specs.Prelude.{◌≡◌, ◌<◌, ◌≤◌, length, IfOk};
 ghost use Rattle.jt_program.specs.View.{program_plan};
-ghost use Rattle.jt_meaning.specs.declared.start.Start.{Start};
+ghost use Rattle.jt_meaning.specs.declared.start.Start.{Start as StartOf};
 ghost use Rattle.jt_machine.specs.Runs.{world_of, IsRun, AllByWorkers, one_worker};
 
 use crate::machine::Machine;
-use crate::setting::Setting;
-use jt_base::{Entry, Fault, Limits, OutOfMemory, Picks, Seeds, Sizes};
+use crate::state::empty_shards;
+use jt_base::{Entry, Fault, Limits, OutOfMemory, Path, Picks, Pool, Seeds, Sizes};
+use jt_meaning::Start;
 use jt_program::Program;
+use jt_step::TaskRun;
 use std::alloc::Global;
 
 /// Why a run ends.
@@ -46,7 +48,7 @@ pub fn run_plain(
 ) -> Result<Run, OutOfMemory>
     requires main { 0 < length program.now.tasks }
     ensures run { IfOk result (λ run. IsRun (record { program = program_plan program.now; sizes = one_worker; limits = limits.now }) seeds.now run.history.items run.end) }
-    ensures workers { IfOk result (λ run. AllByWorkers Start (world_of (record { program = program_plan program.now; sizes = one_worker; limits = limits.now }) seeds.now) run.history.items) }
+    ensures workers { IfOk result (λ run. AllByWorkers StartOf (world_of (record { program = program_plan program.now; sizes = one_worker; limits = limits.now }) seeds.now) run.history.items) }
 {
     let sizes = Sizes {
         default: 1,
@@ -72,17 +74,21 @@ pub fn run_on_one_worker(
     requires main { 0 < length program.now.tasks }
     requires worker { 1 ≤ sizes.default }
     ensures run { IfOk result (λ run. IsRun (record { program = program_plan program.now; sizes = sizes; limits = limits.now }) seeds.now run.history.items run.end) }
-    ensures workers { IfOk result (λ run. AllByWorkers Start (world_of (record { program = program_plan program.now; sizes = sizes; limits = limits.now }) seeds.now) run.history.items) }
+    ensures workers { IfOk result (λ run. AllByWorkers StartOf (world_of (record { program = program_plan program.now; sizes = sizes; limits = limits.now }) seeds.now) run.history.items) }
 {
-    let setting = Setting {
+    let shards = empty_shards(alloc, limits.events)?;
+    let start = Start::main(alloc, seeds)?;
+    let main = TaskRun::start(
         alloc,
         program,
-        seeds: *seeds,
+        start,
+        Path::main(),
         sizes,
-        limits: *limits,
-    };
-    let mut machine = Machine::start(&setting)?;
-    let end = machine.run(&setting, picks)?;
-    let history = machine.into_history(alloc)?;
-    Ok(Run { history, end })
+        limits,
+        Pool::Default,
+    )?;
+    let mut ready = Vec::new(alloc);
+    ready.push(main)?;
+    let machine = Machine::adopt(alloc, program, shards, ready, seeds, sizes, limits)?;
+    machine.run(picks)
 }
