@@ -1,0 +1,7 @@
+pub mod Lines
+pub mod Forms
+pub mod Words
+pub mod Operations
+pub mod Entries
+pub mod Texts
+pub mod Written
