@@ -1,8 +1,6 @@
--- An accepted script, and no fault that was counted, leave the answers of a run and want of memory.
-use Rattle.std.proofs.Common.{◌≡◌, ℕ, ◌+◌, ◌≤◌, ◌↔◌, List, [], ◌++◌, length, Option, Some, None, Result, Ok, Err, IsUtf8, refl, sym, ap, ◌∙◌, subst, arith}
+-- An accepted script is no more than a script may have, a text, and not refused.
+use Rattle.std.proofs.Common.{◌≡◌, ℕ, ◌+◌, List, [], ◌++◌, length, Option, Some, None, Result, Ok, Err, IsUtf8, sym, ap, ◌∙◌, subst, arith}
 use Rattle.std.proofs.lemmas.List.{append-nil, length-append}
-use Rattle.jt_base.specs.declared.entry.Entry.{Entry}
-use Rattle.jt_base.specs.declared.run.Sizes.{Sizes}
 use Rattle.jt_base.specs.Limits.{most_script, most_open}
 use Rattle.jt_base.specs.Outside.{ReadsToEnd, Gives}
 use Rattle.jt_grammar.specs.Joined.{IsScriptOf, IsUnexpected, IsTooDeep}
@@ -13,20 +11,18 @@ use Rattle.jt_lexer.proofs.TokenLaws.{tokens_read}
 use Rattle.jt_lexer.specs.Tokens.{IsTokensOf}
 use Rattle.jt_lexer.specs.declared.error.LexError.TheVariants as lexical
 use Rattle.jt_forms.specs.Built.{unbuilt}
-use Rattle.jt_rules.specs.declared.rules.Broken.{Broken}
-use Rattle.jt_rules.specs.declared.rules.Rule.{Rule}
-use Rattle.jt_rules.specs.declared.rules.Rule.TheVariants as rule
-use Rattle.jt_rules.specs.Scripts.{Among, Breaks, BreaksNone, broken_rules}
+use Rattle.jt_naming.specs.declared.rules.Broken.{Broken}
+use Rattle.jt_naming.specs.declared.rules.Rule.{Rule}
+use Rattle.jt_naming.specs.declared.rules.Rule.TheVariants as rule
+use Rattle.jt_naming.specs.Scripts.{Among, Breaks, BreaksNone, broken_rules}
 use Rattle.jt_syntax.specs.Tree.{TopTree}
 use Rattle.jt_syntax.specs.declared.token.Token.{Token}
 use Rattle.jt_tool.specs.declared.report.Refusal.{Refusal}
 use Rattle.jt_tool.specs.declared.report.Refusal.TheVariants.{BadCharacter, OpenString, NumberTooLarge, Unexpected, TooDeep, NotBuilt, UnknownName, CapturedAssigned, AmbiguousGlobal, TwiceDefined, WrongCount, NoConstant, BadJump}
-use Rattle.jt_tool.specs.declared.report.Status.{Status}
-use Rattle.jt_tool.specs.declared.report.Status.TheVariants.{Ok as Fine, MainFailed, Usage, Refused, ReadFault, WriteFault, Deadlock, EventLimit, OutOfMemory, TooLarge, NotText}
-use Rattle.jt_tool.specs.Tool.{AnswersSource, ReadWhole, IsAccepted, IsOfRun, IsScriptText, IsRefused, IsMisnamedAt}
+use Rattle.jt_tool.specs.Scripts.{IsAccepted, IsScriptText, IsRefused, IsMisnamedAt}
 
 -- what a source gave is no more than what was left
-not_too_many : (before after : Option (List ℕ)) → IsAccepted before → Gives before after (most_script + 1) → ⊥
+pub not_too_many : (before after : Option (List ℕ)) → IsAccepted before → Gives before after (most_script + 1) → ⊥
 not_too_many None after accepted given = accepted
 not_too_many (Some bytes) None accepted given = given.1
 not_too_many (Some bytes) (Some rest) accepted given =
@@ -93,37 +89,13 @@ not_refused bytes ts tops WrongCount at is built named r = not_misnamed bytes ts
 not_refused bytes ts tops NoConstant at is built named r = not_misnamed bytes ts tops rule.NoConstant at is named r
 not_refused bytes ts tops BadJump at is built named r = not_misnamed bytes ts tops rule.BadJump at is named r
 
-not_refused_source : (before after : Option (List ℕ)) (read : List ℕ) (kind : Refusal) (at : ℕ) → IsAccepted before → ReadsToEnd before after read → IsRefused read kind at → ⊥
+pub not_refused_source : (before after : Option (List ℕ)) (read : List ℕ) (kind : Refusal) (at : ℕ) → IsAccepted before → ReadsToEnd before after read → IsRefused read kind at → ⊥
 not_refused_source None after read kind at accepted h r = accepted
 not_refused_source (Some bytes) after read kind at accepted h r =
     let P : List ℕ → Type 0 = λ b. IsRefused b kind at in
-    not_refused bytes accepted.1 accepted.2 kind at accepted.3 accepted.4 accepted.5 (subst P (sym (all_read bytes read after h)) r)
+    let p = accepted.2 in
+    not_refused bytes p.tokens p.tops kind at p.read p.built p.named (subst P (sym (all_read bytes read after h)) r)
 
-text_source : (before after : Option (List ℕ)) (read : List ℕ) → IsAccepted before → ReadsToEnd before after read → (IsUtf8 read → ⊥) → ⊥
+pub text_source : (before after : Option (List ℕ)) (read : List ℕ) → IsAccepted before → ReadsToEnd before after read → (IsUtf8 read → ⊥) → ⊥
 text_source None after read accepted h no_text = accepted
-text_source (Some bytes) after read accepted h no_text = no_text (subst IsUtf8 (all_read bytes read after h) accepted.3.text)
-
-none_is_some : {A : Type 0} (o : Option A) (a : A) → o ≡ None → o ≡ Some a → ⊥
-none_is_some o a n q = apart (sym n ∙ q)
-  where
-    apart : {A : Type 0} {a : A} → None ≡ Some a → ⊥
-    apart e = cc
-
-pub completes : (sizes : Option Sizes) (read_rose wrote_rose : Type 0) (status : Status) (history : List Entry) (before after out_before out_after : Option (List ℕ))
-    → (status ≡ Usage ↔ (sizes ≡ None)) → (status ≡ ReadFault → read_rose) → (status ≡ TooLarge → Gives before after (most_script + 1))
-    → ((chosen : Sizes) → sizes ≡ Some chosen → ReadWhole status → AnswersSource chosen before after status history out_before out_after)
-    → (status ≡ WriteFault → wrote_rose)
-    → (chosen : Sizes) → sizes ≡ Some chosen → (read_rose → ⊥) → (wrote_rose → ⊥) → IsAccepted before → IsOfRun status
-completes sizes rr wr Fine history b a ob oa usage read large whole write chosen is no_read no_write accepted = tt
-completes sizes rr wr (MainFailed fault) history b a ob oa usage read large whole write chosen is no_read no_write accepted = tt
-completes sizes rr wr Deadlock history b a ob oa usage read large whole write chosen is no_read no_write accepted = tt
-completes sizes rr wr EventLimit history b a ob oa usage read large whole write chosen is no_read no_write accepted = tt
-completes sizes rr wr OutOfMemory history b a ob oa usage read large whole write chosen is no_read no_write accepted = tt
-completes sizes rr wr Usage history b a ob oa usage read large whole write chosen is no_read no_write accepted = absurd (none_is_some sizes chosen (usage.0 refl) is)
-completes sizes rr wr ReadFault history b a ob oa usage read large whole write chosen is no_read no_write accepted = absurd (no_read (read refl))
-completes sizes rr wr WriteFault history b a ob oa usage read large whole write chosen is no_read no_write accepted = absurd (no_write (write refl))
-completes sizes rr wr TooLarge history b a ob oa usage read large whole write chosen is no_read no_write accepted = absurd (not_too_many b a accepted (large refl))
-completes sizes rr wr (Refused kind at) history b a ob oa usage read large whole write chosen is no_read no_write accepted =
-    let w = whole chosen is tt in absurd (not_refused_source b a w.bytes kind at accepted w.read w.answers.1)
-completes sizes rr wr NotText history b a ob oa usage read large whole write chosen is no_read no_write accepted =
-    let w = whole chosen is tt in absurd (text_source b a w.bytes accepted w.read w.answers)
+text_source (Some bytes) after read accepted h no_text = no_text (subst IsUtf8 (all_read bytes read after h) accepted.2.read.text)

@@ -1,3 +1,4 @@
-pub mod Answered
+pub mod Stopped
 pub mod Complete
+pub mod Answered
 pub mod Numbers

@@ -1,8 +1,11 @@
 -- The words of the command line.
 use Rattle.std.specs.Prelude.{ℕ, ◌+◌, ◌*◌, ◌-◌, List, [], ◌∷◌, ◌++◌, Bool, ◌&&◌, Option, Some, None, length, nat_eq, nat_le, if◌then◌else◌, codes}
+use Rattle.jt_base.specs.declared.run.Seeds.{Seeds}
 use Rattle.jt_base.specs.declared.run.Sizes.{Sizes}
+use Rattle.jt_base.specs.Limits.{default_limits}
 use Rattle.jt_machine.specs.Runs.{one_worker}
 use Rattle.jt_syntax.specs.Bytes.{same_bytes}
+use Rattle.jt_tool.specs.declared.command.Command.{Command}
 
 -- a decimal digit
 abbrev pub is_digit : ℕ → Bool
@@ -57,13 +60,30 @@ sizes_named (a ∷ b ∷ []) = None
 sizes_named (a ∷ b ∷ c ∷ []) = if same_bytes a (codes "run") && same_bytes b (codes "--threads") then threads_named c else None
 sizes_named (a ∷ b ∷ c ∷ d ∷ words) = None
 
+-- the seed words of a run for which no others are chosen
+abbrev pub default_seeds : Seeds
+default_seeds = record { words = 1 ∷ 2 ∷ 3 ∷ 4 ∷ 5 ∷ [] }
+
+-- the command with so many workers, and with the defaults of what no words name
+abbrev pub command_with : Sizes → Command
+command_with sizes = record { sizes = sizes; seeds = default_seeds; picks = 0; limits = default_limits }
+
+-- the same, where there are numbers of workers
+abbrev pub command_by : Option Sizes → Option Command
+command_by None = None
+command_by (Some sizes) = Some (command_with sizes)
+
+-- the command that the words are, if they are one
+abbrev pub command_named : List (List ℕ) → Option Command
+command_named words = command_by (sizes_named words)
+
 -- the same with one default worker alone
 abbrev pub is_one_worker : Sizes → Bool
 is_one_worker sizes = nat_eq sizes.default 1 && nat_eq sizes.interactive 0
 
-abbrev pub if_plain : Option Sizes → Option Sizes
+abbrev pub if_plain : Option Command → Option Command
 if_plain None = None
-if_plain (Some sizes) = if is_one_worker sizes then Some sizes else None
+if_plain (Some command) = if is_one_worker command.sizes then Some command else None
 
-abbrev pub plain_sizes_named : List (List ℕ) → Option Sizes
-plain_sizes_named words = if_plain (sizes_named words)
+abbrev pub plain_command_named : List (List ℕ) → Option Command
+plain_command_named words = if_plain (command_named words)

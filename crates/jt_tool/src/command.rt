@@ -3,10 +3,43 @@
 ghost use Rattle.std.specs.Prelude.{◌≡◌, ◌≤◌, ◌∷◌, IfSome, List, map, string_bytes, ℕ};
 ghost use Rattle.jt_tool.specs.Words as spec;
 
-use jt_base::Sizes;
+use jt_base::{DEFAULT_LIMITS, Limits, Seeds, Sizes};
 
 /// The most digits of a number.
 const MOST_DIGITS: usize = 20;
+
+/// The seed words of a run for which no others are chosen.
+const DEFAULT_SEEDS: Seeds = Seeds {
+    words: [1, 2, 3, 4, 5],
+};
+
+/// The picks of a run for which no others are chosen.
+const DEFAULT_PICKS: u64 = 0;
+
+/// What the words of a command say of a run.
+#[derive(Clone, Copy, PartialEq, Eq, Debug)]
+pub struct Command {
+    /// The numbers of workers.
+    pub sizes: Sizes,
+    /// The seed words.
+    pub seeds: Seeds,
+    /// The number whose picks choose among ready tasks.
+    pub picks: u64,
+    /// The limits.
+    pub limits: Limits,
+}
+
+/// The command with so many workers, and with the defaults of what no words name.
+fn command_with(sizes: Sizes) -> Command
+    ensures { result ≡ spec.command_with sizes }
+{
+    Command {
+        sizes,
+        seeds: DEFAULT_SEEDS,
+        picks: DEFAULT_PICKS,
+        limits: DEFAULT_LIMITS,
+    }
+}
 
 /// A number with one digit more, if it is a digit and the number is at most this one.
 #[tactic(auto, using(crate::proofs::Numbers::too_large))]
@@ -81,7 +114,7 @@ fn threads_named(text: &[u8]) -> Option<Sizes>
 
 /// The numbers of workers that the command names: one default worker by `run`, and those of
 /// `run --threads N` or `run --threads N,M`. Nothing for other words.
-pub(crate) fn sizes_named(words: &[String]) -> Option<Sizes>
+fn sizes_named(words: &[String]) -> Option<Sizes>
     ensures named { result ≡ spec.sizes_named (map string_bytes words.now) }
     ensures worker { IfSome result (λ sizes. 1 ≤ sizes.default) }
 {
@@ -109,13 +142,26 @@ pub(crate) fn sizes_named(words: &[String]) -> Option<Sizes>
     }
 }
 
-/// The same where it is one default worker alone, and nothing for other numbers.
-pub(crate) fn plain_sizes_named(words: &[String]) -> Option<Sizes>
-    ensures named { result ≡ spec.plain_sizes_named (map string_bytes words.now) }
-    ensures worker { IfSome result (λ sizes. 1 ≤ sizes.default) }
+/// The command that the words are, if they are one.
+pub(crate) fn command_named(words: &[String]) -> Option<Command>
+    ensures named { result ≡ spec.command_named (map string_bytes words.now) }
+    ensures worker { IfSome result (λ command. 1 ≤ command.sizes.default) }
 {
     match sizes_named(words) {
-        Some(sizes) if sizes.default == 1 && sizes.interactive == 0 => Some(sizes),
+        Some(sizes) => Some(command_with(sizes)),
+        None => None,
+    }
+}
+
+/// The same where it is one default worker alone, and nothing for other numbers.
+pub(crate) fn plain_command_named(words: &[String]) -> Option<Command>
+    ensures named { result ≡ spec.plain_command_named (map string_bytes words.now) }
+    ensures worker { IfSome result (λ command. 1 ≤ command.sizes.default) }
+{
+    match command_named(words) {
+        Some(command) if command.sizes.default == 1 && command.sizes.interactive == 0 => {
+            Some(command)
+        }
         _ => None,
     }
 }

@@ -2,15 +2,18 @@
 //! out.
 #![tactic(auto)]
 
-mod causes;
+mod answer;
 mod command;
 mod fault;
 mod note;
+mod program;
 mod reading;
 mod report;
 mod run;
+mod stop;
 mod tool;
 mod writing;
 
+pub use command::Command;
 pub use report::{Refusal, Report, Status};
 pub use tool::{plain_tool, run_tool, tell};

@@ -1,128 +1,28 @@
 //! The commands, from bytes to bytes.
 
-ghost use Rattle.std.specs.Prelude.{◌≡◌, ◌+◌, ◌≤◌, ◌↔◌, [], IfSome, None, Some, length, map, string_bytes};
-ghost use Rattle.std.specs.Io.KnownBytes.{Appends};
-ghost use Rattle.jt_base.specs.declared.run.Sizes.{Sizes as SizesOf};
-ghost use Rattle.jt_base.specs.Limits.{most_script};
-ghost use Rattle.jt_base.specs.Outside.{Rose, Gives};
-ghost use Rattle.jt_tool.specs.declared.report.Status.TheVariants.{Usage, ReadFault, WriteFault, TooLarge};
+ghost use Rattle.std.specs.Prelude.{◌≡◌, ◌≤◌, IfSome, map, string_bytes};
+ghost use Rattle.jt_tool.specs.declared.report.Status.TheVariants.{WriteFault};
+ghost use Rattle.jt_tool.specs.Outcomes.{TellsFailure};
 ghost use Rattle.jt_tool.specs.Status.{status_note, IsBrief};
-ghost use Rattle.jt_tool.specs.Words.{plain_sizes_named, sizes_named};
-ghost use Rattle.jt_tool.specs.Tool.{AnswersBytes, AnswersSource, IsOfRun, ReadWhole, WroteNothing, ComesAfterReading, IsAccepted, TellsFailure, EndsAs, status_of_end};
+ghost use Rattle.jt_tool.specs.Tool.{Answers, IsNoted};
+ghost use Rattle.jt_tool.specs.Words.{command_named, plain_command_named};
 
-use crate::command::{plain_sizes_named, sizes_named};
+use crate::answer::{Outcome, answer};
+use crate::command::{Command, command_named, plain_command_named};
 use crate::note::{LONGEST_NOTE, brief_note};
-use crate::reading::read_all;
 use crate::report::{Report, Status};
-use crate::run::{Ran, Way, run_bytes};
 use crate::writing::write_all;
 use arrayvec::ArrayString;
-use jt_base::{Gate, MOST_SCRIPT, Sink, Sizes, Source, Text};
+use jt_base::{Gate, Sink, Source, Text};
 use std::alloc::Global;
 use std::sync::Wait;
 use std::thread::Threads;
-
-/// By which picks a run's ready tasks are chosen.
-const DEFAULT_PICKS: u64 = 0;
-
-/// A report, and the note of its run's main task where that failed.
-struct Outcome {
-    report: Report,
-    failure: Text,
-}
-
-/// An answer without a run.
-fn without_run(alloc: Global, status: Status) -> Outcome
-    ensures status { result.report.status ≡ status }
-    ensures history { result.report.history.items ≡ [] }
-{
-    Outcome {
-        report: Report {
-            status,
-            history: Vec::new(alloc),
-        },
-        failure: Text::from_string(String::new(alloc)),
-    }
-}
-
-/// Writes the lines of a run.
-fn written<O: Sink>(ran: Ran, out: &mut O) -> Outcome
-    ensures history { result.report.history.items ≡ ran.history.items }
-    ensures status { EndsAs (status_of_end ran.end) ran.lines (O.written out.old) (O.written out.new) (O.faults out.old) (O.faults out.new) result.report.status }
-    ensures never_falls { O.faults out.old ≤ O.faults out.new }
-    ensures failure { TellsFailure (status_of_end ran.end) ran.failure → TellsFailure result.report.status result.failure }
-{
-    let Ran {
-        history,
-        end,
-        lines,
-        failure,
-    } = ran;
-    let status = match write_all(out, lines.bytes()) {
-        Ok(()) => Status::from(end),
-        Err(_) => Status::WriteFault,
-    };
-    Outcome {
-        report: Report { status, history },
-        failure,
-    }
-}
-
-/// Runs the script that these bytes are, and writes its lines.
-fn answer_bytes<O: Sink>(alloc: Global, bytes: &[u8], way: Way, out: &mut O) -> Outcome
-    requires short { length bytes.now ≤ most_script }
-    requires worker { 1 ≤ way.sizes.default }
-    ensures answer { AnswersBytes way.sizes bytes.now result.report.status result.report.history.items (O.written out.old) (O.written out.new) }
-    ensures write_fault { result.report.status ≡ WriteFault → Rose (O.faults out.old) (O.faults out.new) }
-    ensures never_falls { O.faults out.old ≤ O.faults out.new }
-    ensures nothing { WroteNothing result.report.status → out.new ≡ out.old }
-    ensures no_run { WroteNothing result.report.status → result.report.history.items ≡ [] }
-    ensures later { ComesAfterReading result.report.status }
-    ensures failure { TellsFailure result.report.status result.failure }
-{
-    match run_bytes(alloc, bytes, way) {
-        Ok(ran) => written(ran, out),
-        Err(status) => without_run(alloc, status),
-    }
-}
-
-/// Does the command `run` with these numbers of workers; where there are none, the words were no command.
-fn answer<S: Source, O: Sink>(
-    alloc: Global,
-    sizes: Option<Sizes>,
-    source: &mut S,
-    out: &mut O,
-) -> Outcome
-    requires worker { IfSome sizes (λ chosen. 1 ≤ chosen.default) }
-    ensures usage { result.report.status ≡ Usage ↔ (sizes ≡ None) }
-    ensures read_fault { result.report.status ≡ ReadFault → Rose (S.faults source.old) (S.faults source.new) }
-    ensures too_large { result.report.status ≡ TooLarge → Gives (S.left source.old) (S.left source.new) (most_script + 1) }
-    ensures whole { (chosen : SizesOf) → sizes ≡ Some chosen → ReadWhole result.report.status → AnswersSource chosen (S.left source.old) (S.left source.new) result.report.status result.report.history.items (O.written out.old) (O.written out.new) }
-    ensures write_fault { result.report.status ≡ WriteFault → Rose (O.faults out.old) (O.faults out.new) }
-    ensures source_never_falls { S.faults source.old ≤ S.faults source.new }
-    ensures out_never_falls { O.faults out.old ≤ O.faults out.new }
-    ensures nothing { WroteNothing result.report.status → out.new ≡ out.old }
-    ensures failure { TellsFailure result.report.status result.failure }
-    ensures no_run { WroteNothing result.report.status → result.report.history.items ≡ [] }
-{
-    let Some(sizes) = sizes else {
-        return without_run(alloc, Status::Usage);
-    };
-    let way = Way {
-        sizes,
-        picks: DEFAULT_PICKS,
-    };
-    match read_all(alloc, source, MOST_SCRIPT) {
-        Ok(bytes) => answer_bytes(alloc, bytes.as_slice(), way, out),
-        Err(error) => without_run(alloc, Status::from(error)),
-    }
-}
 
 /// Writes the note of a status that tells no fault. A write that fails changes nothing else. It
 /// takes no memory.
 pub fn tell<N: Sink>(notes: &mut N, status: &Status)
     requires { IsBrief status.now }
-    ensures { ¬ Rose (N.faults notes.old) (N.faults notes.new) → Appends (N.written notes.old) (N.written notes.new) (status_note status.now) }
+    ensures { IsNoted N.written N.faults notes.old notes.new status.now }
 {
     let note = brief_note(status);
     let _written = write_all(notes, note.as_str().as_bytes());
@@ -138,7 +38,7 @@ fn tell_after_writing<N: Sink>(
 )
     requires failure { TellsFailure status.now failure.now }
     requires write_fault { write_fault.now.bytes ≡ status_note WriteFault }
-    ensures { ¬ Rose (N.faults notes.old) (N.faults notes.new) → Appends (N.written notes.old) (N.written notes.new) (status_note status.now) }
+    ensures { IsNoted N.written N.faults notes.old notes.new status.now }
 {
     match status {
         Status::MainFailed(_) => {
@@ -154,25 +54,17 @@ fn tell_after_writing<N: Sink>(
 /// Does the command and writes its note.
 fn answer_and_note<S: Source, O: Sink, N: Sink>(
     alloc: Global,
-    sizes: Option<Sizes>,
+    command: Option<Command>,
     source: &mut S,
     out: &mut O,
     notes: &mut N,
 ) -> Report
-    requires worker { IfSome sizes (λ chosen. 1 ≤ chosen.default) }
-    ensures usage { result.status ≡ Usage ↔ (sizes ≡ None) }
-    ensures read_fault { result.status ≡ ReadFault → Rose (S.faults source.old) (S.faults source.new) }
-    ensures too_large { result.status ≡ TooLarge → Gives (S.left source.old) (S.left source.new) (most_script + 1) }
-    ensures whole { (chosen : SizesOf) → sizes ≡ Some chosen → ReadWhole result.status → AnswersSource chosen (S.left source.old) (S.left source.new) result.status result.history.items (O.written out.old) (O.written out.new) }
-    ensures write_fault { result.status ≡ WriteFault → Rose (O.faults out.old) (O.faults out.new) }
-    ensures nothing { WroteNothing result.status → out.new ≡ out.old }
-    ensures no_run { WroteNothing result.status → result.history.items ≡ [] }
-    ensures noted { ¬ Rose (N.faults notes.old) (N.faults notes.new) → Appends (N.written notes.old) (N.written notes.new) (status_note result.status) }
-    ensures complete { (chosen : SizesOf) → sizes ≡ Some chosen → ¬ Rose (S.faults source.old) (S.faults source.new) → ¬ Rose (O.faults out.old) (O.faults out.new)
-        → IsAccepted (S.left source.old) → IsOfRun result.status }
+    requires worker { IfSome command (λ chosen. 1 ≤ chosen.sizes.default) }
+    ensures answers { Answers S.left S.faults O.written O.faults command source.old source.new out.old out.new result.status result.history.items }
+    ensures noted { IsNoted N.written N.faults notes.old notes.new result.status }
 {
     let write_fault = brief_note(&Status::WriteFault);
-    let Outcome { report, failure } = answer(alloc, sizes, source, out);
+    let Outcome { report, failure } = answer(alloc, command, source, out);
     tell_after_writing(notes, &report.status, &failure, &write_fault);
     report
 }
@@ -202,18 +94,10 @@ pub fn plain_tool<S: Source, O: Sink, N: Sink>(
     out: &mut O,
     notes: &mut N,
 ) -> Report
-    ensures usage { result.status ≡ Usage ↔ (plain_sizes_named (map string_bytes words.now) ≡ None) }
-    ensures read_fault { result.status ≡ ReadFault → Rose (S.faults source.old) (S.faults source.new) }
-    ensures too_large { result.status ≡ TooLarge → Gives (S.left source.old) (S.left source.new) (most_script + 1) }
-    ensures whole { (chosen : SizesOf) → plain_sizes_named (map string_bytes words.now) ≡ Some chosen → ReadWhole result.status → AnswersSource chosen (S.left source.old) (S.left source.new) result.status result.history.items (O.written out.old) (O.written out.new) }
-    ensures write_fault { result.status ≡ WriteFault → Rose (O.faults out.old) (O.faults out.new) }
-    ensures nothing { WroteNothing result.status → out.new ≡ out.old }
-    ensures no_run { WroteNothing result.status → result.history.items ≡ [] }
-    ensures noted { ¬ Rose (N.faults notes.old) (N.faults notes.new) → Appends (N.written notes.old) (N.written notes.new) (status_note result.status) }
-    ensures complete { (chosen : SizesOf) → plain_sizes_named (map string_bytes words.now) ≡ Some chosen → ¬ Rose (S.faults source.old) (S.faults source.new) → ¬ Rose (O.faults out.old) (O.faults out.new)
-        → IsAccepted (S.left source.old) → IsOfRun result.status }
+    ensures answers { Answers S.left S.faults O.written O.faults (plain_command_named (map string_bytes words.now)) source.old source.new out.old out.new result.status result.history.items }
+    ensures noted { IsNoted N.written N.faults notes.old notes.new result.status }
 {
-    answer_and_note(alloc, plain_sizes_named(words), source, out, notes)
+    answer_and_note(alloc, plain_command_named(words), source, out, notes)
 }
 
 /// Does the command `run` as [`plain_tool`] does, with any numbers of workers: 1 to 64 default ones, and
@@ -228,16 +112,8 @@ pub fn run_tool<R: Threads + Wait + Sync, S: Source, O: Sink, N: Sink, G: Gate>(
     notes: &mut N,
     _gate: &G,
 ) -> Report
-    ensures usage { result.status ≡ Usage ↔ (sizes_named (map string_bytes words.now) ≡ None) }
-    ensures read_fault { result.status ≡ ReadFault → Rose (S.faults source.old) (S.faults source.new) }
-    ensures too_large { result.status ≡ TooLarge → Gives (S.left source.old) (S.left source.new) (most_script + 1) }
-    ensures whole { (chosen : SizesOf) → sizes_named (map string_bytes words.now) ≡ Some chosen → ReadWhole result.status → AnswersSource chosen (S.left source.old) (S.left source.new) result.status result.history.items (O.written out.old) (O.written out.new) }
-    ensures write_fault { result.status ≡ WriteFault → Rose (O.faults out.old) (O.faults out.new) }
-    ensures nothing { WroteNothing result.status → out.new ≡ out.old }
-    ensures no_run { WroteNothing result.status → result.history.items ≡ [] }
-    ensures noted { ¬ Rose (N.faults notes.old) (N.faults notes.new) → Appends (N.written notes.old) (N.written notes.new) (status_note result.status) }
-    ensures complete { (chosen : SizesOf) → sizes_named (map string_bytes words.now) ≡ Some chosen → ¬ Rose (S.faults source.old) (S.faults source.new) → ¬ Rose (O.faults out.old) (O.faults out.new)
-        → IsAccepted (S.left source.old) → IsOfRun result.status }
+    ensures answers { Answers S.left S.faults O.written O.faults (command_named (map string_bytes words.now)) source.old source.new out.old out.new result.status result.history.items }
+    ensures noted { IsNoted N.written N.faults notes.old notes.new result.status }
 {
-    answer_and_note(alloc, sizes_named(words), source, out, notes)
+    answer_and_note(alloc, command_named(words), source, out, notes)
 }

@@ -1,5 +1,5 @@
 use Rattle.jt_printer.proofs.Whole.{ends_with_stop, few_tokens}
-use Rattle.jt_tool.proofs.run.tokens_of.Goals as goal
+use Rattle.jt_tool.proofs.program.tokens_of.Goals as goal
 
 pub returns-in_ok-tokens-in-Ok-clause-whole : goal.returns-in_ok-tokens-in-Ok-clause-whole
 returns-in_ok-tokens-in-Ok-clause-whole c = ends_with_stop c.in-Ok.text.now c.in_ok-tokens-in-Ok.tokens.items c.in_ok-tokens-in-Ok.ensures.whole
