@@ -121,7 +121,7 @@ fn waiting(alloc: Global) -> Result<Program, OutOfMemory> {
 
 // What an advance is to tell; of a task that it makes the path and the value that the task takes.
 #[derive(Drop)]
-enum Told {
+enum Said {
     More,
     Needs(Op),
     Spawns(Path, i64),
@@ -140,14 +140,14 @@ fn is_start(start: &Start, value: i64) -> bool {
         && start.how == How::Default
 }
 
-fn tells(told: &Advance, wanted: &Told) -> bool {
-    match (told, wanted) {
-        (Advance::More, Told::More) => true,
-        (Advance::Needs(op), Told::Needs(needed)) => *op == *needed,
-        (Advance::Spawns(op, start), Told::Spawns(path, value)) => {
+fn tells(said: &Advance, wanted: &Said) -> bool {
+    match (said, wanted) {
+        (Advance::More, Said::More) => true,
+        (Advance::Needs(op), Said::Needs(needed)) => *op == *needed,
+        (Advance::Spawns(op, start), Said::Spawns(path, value)) => {
             *op == Op::Spawn(path.copy(), How::Default) && is_start(start, *value)
         }
-        (Advance::Over, Told::Over) => true,
+        (Advance::Over, Said::Over) => true,
         _ => false,
     }
 }
@@ -156,13 +156,13 @@ fn tells(told: &Advance, wanted: &Told) -> bool {
 fn goes_on(
     rt: &impl Abort,
     task: &mut TaskRun<'_>,
-    step: &(u32, Option<Reply>, Told),
+    step: &(u32, Option<Reply>, Said),
 ) -> Result<(), Fail> {
     let (turns, reply, wanted) = step;
-    let told = task.advance(*turns)?;
-    let is_told = tells(&told, wanted);
-    drop(told);
-    assert!(rt; is_told);
+    let said = task.advance(*turns)?;
+    let is_said = tells(&said, wanted);
+    drop(said);
+    assert!(rt; is_said);
     if let Some(reply) = reply {
         task.reserve_note()?;
         task.note(1, reply.copy());
@@ -177,7 +177,7 @@ fn advances(
     program: &Program,
     path: Path,
     limit: u64,
-    steps: &[(u32, Option<Reply>, Told)],
+    steps: &[(u32, Option<Reply>, Said)],
 ) -> Result<(), Fail> {
     assert!(rt; program.tasks.len() > 0);
     let start = Start::main(alloc, &Seeds { words: WORDS })?;
@@ -205,29 +205,29 @@ fn tasks_stop_and_go_on(rt: HostRuntime) -> Result<(), Fail> {
     let alloc = rt.alloc();
     // 400 turns, 400 turns, and the 200 that are left
     let steps = [
-        (400, ok(), Told::Needs(Op::Begin)),
-        (400, None, Told::More),
-        (400, None, Told::More),
-        (400, ok(), Told::Needs(Op::Fail(Fault::TurnLimit))),
-        (400, None, Told::Over),
+        (400, ok(), Said::Needs(Op::Begin)),
+        (400, None, Said::More),
+        (400, None, Said::More),
+        (400, ok(), Said::Needs(Op::Fail(Fault::TurnLimit))),
+        (400, None, Said::Over),
     ];
     advances(&rt, alloc, &endless(alloc)?, Path::main(), 1000, &steps)?;
     // an operation without a reply is needed again, and takes no turn
     let steps = [
-        (0, None, Told::Needs(Op::Begin)),
-        (0, ok(), Told::Needs(Op::Begin)),
+        (0, None, Said::Needs(Op::Begin)),
+        (0, ok(), Said::Needs(Op::Begin)),
         (
             0,
             None,
-            Told::Needs(Op::Print(Text::from_str(alloc, "a1")?)),
+            Said::Needs(Op::Print(Text::from_str(alloc, "a1")?)),
         ),
         (
             0,
             ok(),
-            Told::Needs(Op::Print(Text::from_str(alloc, "a1")?)),
+            Said::Needs(Op::Print(Text::from_str(alloc, "a1")?)),
         ),
-        (0, ok(), Told::Needs(Op::End(Value::Nothing))),
-        (0, None, Told::Over),
+        (0, ok(), Said::Needs(Op::End(Value::Nothing))),
+        (0, None, Said::Over),
     ];
     advances(&rt, alloc, &printing(alloc)?, Path::main(), 1, &steps)?;
     Ok(())
@@ -243,8 +243,8 @@ fn calls_are_limited(rt: HostRuntime) -> Result<(), Fail> {
     ];
     for (calls, limit, last) in cases {
         let steps = [
-            (0, ok(), Told::Needs(Op::Begin)),
-            (20000, ok(), Told::Needs(last)),
+            (0, ok(), Said::Needs(Op::Begin)),
+            (20000, ok(), Said::Needs(last)),
         ];
         advances(
             &rt,
@@ -268,19 +268,19 @@ fn tasks_are_made_and_fetched(rt: HostRuntime) -> Result<(), Fail> {
     ];
     for (reply, last) in cases {
         let steps = [
-            (0, ok(), Told::Needs(Op::Begin)),
-            (0, None, Told::Spawns(first.copy(), 5)),
-            (0, ok(), Told::Spawns(first.copy(), 5)),
-            (0, Some(reply), Told::Needs(Op::Fetch(first.copy()))),
-            (0, ok(), Told::Needs(last)),
-            (0, None, Told::Over),
+            (0, ok(), Said::Needs(Op::Begin)),
+            (0, None, Said::Spawns(first.copy(), 5)),
+            (0, ok(), Said::Spawns(first.copy(), 5)),
+            (0, Some(reply), Said::Needs(Op::Fetch(first.copy()))),
+            (0, ok(), Said::Needs(last)),
+            (0, None, Said::Over),
         ];
         advances(&rt, alloc, &fetching(alloc, 0)?, Path::main(), 1, &steps)?;
     }
     // a variable that has no value yet, and a path that is full
     let steps = [
-        (0, ok(), Told::Needs(Op::Begin)),
-        (0, ok(), Told::Needs(Op::Fail(Fault::Undefined))),
+        (0, ok(), Said::Needs(Op::Begin)),
+        (0, ok(), Said::Needs(Op::Fail(Fault::Undefined))),
     ];
     advances(&rt, alloc, &fetching(alloc, 1)?, Path::main(), 1, &steps)?;
     let mut deepest = Path::main();
@@ -288,8 +288,8 @@ fn tasks_are_made_and_fetched(rt: HostRuntime) -> Result<(), Fail> {
         deepest = deepest.child(0)?;
     }
     let steps = [
-        (0, ok(), Told::Needs(Op::Begin)),
-        (0, ok(), Told::Needs(Op::Fail(Fault::ForkTooDeep))),
+        (0, ok(), Said::Needs(Op::Begin)),
+        (0, ok(), Said::Needs(Op::Fail(Fault::ForkTooDeep))),
     ];
     advances(&rt, alloc, &fetching(alloc, 0)?, deepest, 1, &steps)?;
     Ok(())
@@ -322,14 +322,14 @@ fn tasks_are_waited_for(rt: HostRuntime) -> Result<(), Fail> {
     ];
     for (one, other, next) in cases {
         let steps = [
-            (0, ok(), Told::Needs(Op::Begin)),
-            (0, ok(), Told::Spawns(first.copy(), 5)),
-            (0, ok(), Told::Spawns(Path::main().child(1)?, 5)),
-            (0, ok(), Told::Spawns(last.copy(), 5)),
-            (0, Some(one), Told::Needs(Op::Wait(first.copy()))),
-            (0, Some(other), Told::Needs(Op::Wait(last.copy()))),
-            (0, ok(), Told::Needs(next)),
-            (0, None, Told::Over),
+            (0, ok(), Said::Needs(Op::Begin)),
+            (0, ok(), Said::Spawns(first.copy(), 5)),
+            (0, ok(), Said::Spawns(Path::main().child(1)?, 5)),
+            (0, ok(), Said::Spawns(last.copy(), 5)),
+            (0, Some(one), Said::Needs(Op::Wait(first.copy()))),
+            (0, Some(other), Said::Needs(Op::Wait(last.copy()))),
+            (0, ok(), Said::Needs(next)),
+            (0, None, Said::Over),
         ];
         advances(&rt, alloc, &waiting(alloc)?, Path::main(), 1, &steps)?;
     }

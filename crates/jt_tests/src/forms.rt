@@ -1,6 +1,6 @@
 //! The functions of the language.
 
-use jt_forms::{Arity, Function, arity_of, is_language_function};
+use jt_functions::{Arity, Function, arity_of, is_language_function};
 use std::test::Fail;
 
 // A name, and how many arguments the function of that name takes, if there is one.

@@ -31,3 +31,5 @@ mod streams;
 mod tokens;
 #[cfg(test)]
 mod trees;
+#[cfg(test)]
+mod words;

@@ -34,7 +34,7 @@ fn picks_give_both_orders(rt: HostRuntime) -> Result<(), Fail> {
     let alloc = rt.alloc();
     let text = "a = @spawn println(1); b = @spawn println(2); wait(a); wait(b)";
     let script = script_of(&rt, alloc, text)?;
-    let program = resolve(alloc, script)?;
+    let program = resolve(alloc, &script)?;
     let mut first: u32 = 0;
     let mut second: u32 = 0;
     for picks in 0..64_u64 {
