@@ -1,7 +1,6 @@
 -- Worked examples, by computing: lines, and a whole trace with its text.
-use Rattle.std.proofs.Common.{◌≡◌, ℕ, List, [], ◌∷◌, ◌++◌, Some, None, true, refl, arith}
+use Rattle.std.proofs.Common.{◌≡◌, ℕ, List, [], ◌∷◌, ◌++◌, Some, None, refl}
 use Rattle.std.specs.Prelude.{codes, pos, negsuc}
-use Rattle.std.proofs.lemmas.Str.{IsUtf8-from_is_utf8}
 use Rattle.std.specs.Fmt.{digits}
 use Rattle.hex.specs.Hex.{encode_with}
 use Rattle.jt_base.specs.declared.entry.Entry.{Entry}
@@ -14,9 +13,9 @@ use Rattle.jt_base.specs.declared.operation.Reply.{Reply}
 use Rattle.jt_base.specs.declared.operation.Reply.TheVariants as reply
 use Rattle.jt_base.specs.declared.value.Kind.TheVariants as kind
 use Rattle.jt_base.specs.declared.value.Value.TheVariants as value
-use Rattle.jt_trace_text.specs.Lines.{Bytes, first_lines, newlines}
+use Rattle.jt_trace_text.specs.Lines.{Bytes, first_lines}
 use Rattle.jt_trace_text.specs.Entries.{entry_line}
-use Rattle.jt_trace_text.specs.Texts.{TraceValue, IsTraceText}
+use Rattle.jt_trace_text.specs.Texts.{TraceValue}
 use Rattle.jt_trace_text.specs.Words.{name_text, value_text, fault_text}
 use Rattle.jt_trace_text.specs.Written.{trace_text}
 

@@ -1,3 +1,16 @@
 pub mod Examples
 pub mod OneText
 pub mod Written
+pub mod Fronts
+pub mod Steps
+pub mod Scripts
+pub mod Pieces
+pub mod Numbers
+pub mod OneLine
+pub mod Bytes
+pub mod WordLaws
+pub mod IsLines
+pub mod EntryLaws
+pub mod LineLaws
+pub mod Whole
+pub mod Found

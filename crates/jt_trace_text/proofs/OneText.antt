@@ -1,19 +1,19 @@
 -- No trace has two texts: each form is a function of its value.
-use Rattle.std.proofs.Common.{◌≡◌, ℕ, zero, suc, ◌+◌, ◌-◌, ◌*◌, ◌<◌, ◌≤◌, ◌⊎◌, inl, inr, Bool, true, false, not, ◌||◌, List, [], ◌∷◌, ◌++◌, length, take, drop, refl, sym, ap, subst, ◌∙◌, arith}
+use Rattle.std.proofs.Common.{◌≡◌, ℕ, ◌+◌, ◌-◌, ◌*◌, ◌<◌, ◌≤◌, inl, inr, Bool, true, not, ◌||◌, List, [], ◌∷◌, ◌++◌, length, take, drop, refl, sym, ap, subst, ◌∙◌, arith}
 use Rattle.std.specs.Prelude.{◌==◌, slice_index}
 use Rattle.std.specs.Char.{digit_value}
 use Rattle.std.specs.Str.{all_ascii_digits}
 use Rattle.std.specs.Str.Parse.{digits_value, digits_value_after}
-use Rattle.std.proofs.lemmas.Bool.{cases_Bool, and_parts, cases_order, eqb-true, eq-eqb, ltb-true}
-use Rattle.std.proofs.lemmas.List.{take-append-drop, length-drop, length-take, length-append}
+use Rattle.std.proofs.lemmas.Bool.{cases_order, eqb-true, eq-eqb, ltb-true}
+use Rattle.std.proofs.lemmas.List.{take-append-drop, length-drop, length-append}
 use Rattle.std.proofs.lemmas.Str.{digit_value_digit}
 use Rattle.std.proofs.lemmas.Str.Parse.{tells_all_ascii_digits}
 use Rattle.jt_base.specs.declared.entry.Entry.{Entry}
 use Rattle.jt_trace_text.specs.Lines.{Bytes}
-use Rattle.jt_trace_text.specs.Forms.{IsField, IsPair, IsBehind}
-use Rattle.jt_trace_text.specs.Words.{IsNumber}
-use Rattle.jt_trace_text.specs.Entries.{IsEntry, AreEntries}
-use Rattle.jt_trace_text.specs.Texts.{TraceValue, Number, IsFormat, IsThreads, SeedWords, words_of, SeedWord, IsSeed, IsTurns, IsEvents, IsLength, IsScript, IsDigits, IsCount, IsTraceText}
+use Rattle.jt_trace_text.specs.Forms.{IsField, IsTwoParts, IsBehind}
+use Rattle.jt_trace_text.specs.Words.{IsDecimal}
+use Rattle.jt_trace_text.specs.Entries.{AreEntries}
+use Rattle.jt_trace_text.specs.Texts.{TraceValue, IsNumberField, IsFormat, IsThreads, SeedWords, words_of, SeedWord, IsSeedWords, IsSeed, IsTurns, IsEvents, IsLength, IsDigits, IsCount, IsTraceText}
 
 -- a value has one text of the form
 abbrev One : {A : Type 0} → (A → Bytes → Type 0) → Type 0
@@ -22,20 +22,20 @@ One {A} Form = (v : A) (l m : Bytes) → Form v l → Form v m → l ≡ m
 both : {p q r s : Bytes} → p ≡ q → r ≡ s → p ++ r ≡ q ++ s
 both p q = cc
 
-one_number : (low high : ℕ) → One (IsNumber low high)
+one_number : (low high : ℕ) → One (IsDecimal low high)
 one_number low high n l m f g = f.is ∙ sym g.is
 
 one_field : {A : Type 0} (ending : ℕ) (Form : A → Bytes → Type 0) → One Form → One (IsField ending Form)
 one_field ending Form one v l m f g = f.is ∙ ap (λ (w : Bytes). w ++ ending ∷ []) (one v f.word g.word f.form g.form) ∙ sym g.is
 
-one_pair : {A B : Type 0} (First : A → Bytes → Type 0) (Second : A → B → Bytes → Type 0) → One First → ((a : A) → One (Second a)) → One (IsPair First Second)
+one_pair : {A B : Type 0} (First : A → Bytes → Type 0) (Second : A → B → Bytes → Type 0) → One First → ((a : A) → One (Second a)) → One (IsTwoParts First Second)
 one_pair First Second first second v l m f g = f.is ∙ both (first v.0 f.front g.front f.first g.first) (second v.0 v.1 f.back g.back f.second g.second) ∙ sym g.is
 
 one_behind : {A : Type 0} (fixed : Bytes) (Form : A → Bytes → Type 0) → One Form → One (IsBehind fixed Form)
 one_behind fixed Form one v l m f g = f.is ∙ ap (λ (w : Bytes). fixed ++ w) (one v f.rest g.rest f.form g.form) ∙ sym g.is
 
-one_ended : (ending low high : ℕ) → One (Number ending low high)
-one_ended ending low high = one_field ending (IsNumber low high) (one_number low high)
+one_ended : (ending low high : ℕ) → One (IsNumberField ending low high)
+one_ended ending low high = one_field ending (IsDecimal low high) (one_number low high)
 
 -- ---- digits of any length
 
@@ -112,29 +112,29 @@ one_digits n v w f g = elim (cases_order (length v) (length w)) [
 -- ---- the lines
 
 one_format : One IsFormat
-one_format = one_behind _ (Number 10 1 1) (one_ended 10 1 1)
+one_format = one_behind _ (IsNumberField 10 1 1) (one_ended 10 1 1)
 
 one_threads : One IsThreads
-one_threads = one_behind _ (IsPair (Number 44 1 64) (λ n. Number 10 0 16)) (one_pair (Number 44 1 64) (λ n. Number 10 0 16) (one_ended 44 1 64) (λ n. one_ended 10 0 16))
+one_threads = one_behind _ (IsTwoParts (IsNumberField 44 1 64) (λ n. IsNumberField 10 0 16)) (one_pair (IsNumberField 44 1 64) (λ n. IsNumberField 10 0 16) (one_ended 44 1 64) (λ n. one_ended 10 0 16))
 
 one_word : (ending : ℕ) → One (SeedWord ending)
 one_word ending = one_ended ending 0 18446744073709551615
 
-one_seed : One IsSeed
-one_seed = one_behind _ (IsPair (SeedWord 44) (λ a. IsPair (SeedWord 44) (λ b. IsPair (SeedWord 44) (λ c. IsPair (SeedWord 44) (λ d. SeedWord 10)))))
-    (one_pair (SeedWord 44) (λ a. IsPair (SeedWord 44) (λ b. IsPair (SeedWord 44) (λ c. IsPair (SeedWord 44) (λ d. SeedWord 10)))) (one_word 44) (λ a.
-    one_pair (SeedWord 44) (λ b. IsPair (SeedWord 44) (λ c. IsPair (SeedWord 44) (λ d. SeedWord 10))) (one_word 44) (λ b.
-    one_pair (SeedWord 44) (λ c. IsPair (SeedWord 44) (λ d. SeedWord 10)) (one_word 44) (λ c.
+one_seed_words : One IsSeedWords
+one_seed_words = one_behind _ (IsTwoParts (SeedWord 44) (λ a. IsTwoParts (SeedWord 44) (λ b. IsTwoParts (SeedWord 44) (λ c. IsTwoParts (SeedWord 44) (λ d. SeedWord 10)))))
+    (one_pair (SeedWord 44) (λ a. IsTwoParts (SeedWord 44) (λ b. IsTwoParts (SeedWord 44) (λ c. IsTwoParts (SeedWord 44) (λ d. SeedWord 10)))) (one_word 44) (λ a.
+    one_pair (SeedWord 44) (λ b. IsTwoParts (SeedWord 44) (λ c. IsTwoParts (SeedWord 44) (λ d. SeedWord 10))) (one_word 44) (λ b.
+    one_pair (SeedWord 44) (λ c. IsTwoParts (SeedWord 44) (λ d. SeedWord 10)) (one_word 44) (λ c.
     one_pair (SeedWord 44) (λ d. SeedWord 10) (one_word 44) (λ d. one_word 10)))))
 
 one_turns : One IsTurns
-one_turns = one_behind _ (Number 10 1 1000000000) (one_ended 10 1 1000000000)
+one_turns = one_behind _ (IsNumberField 10 1 1000000000) (one_ended 10 1 1000000000)
 
 one_events : One IsEvents
-one_events = one_behind _ (Number 10 1 262144) (one_ended 10 1 262144)
+one_events = one_behind _ (IsNumberField 10 1 262144) (one_ended 10 1 262144)
 
 one_length : One IsLength
-one_length = one_behind _ (Number 10 0 1048576) (one_ended 10 0 1048576)
+one_length = one_behind _ (IsNumberField 10 0 1048576) (one_ended 10 0 1048576)
 
 one_count : One IsCount
 one_count = one_behind _ (IsField 10 IsDigits) (one_field 10 IsDigits one_digits)
@@ -151,13 +151,17 @@ same_words v w e = words v.0 v.1.0 v.1.1.0 v.1.1.1.0 v.1.1.1.1 w.0 w.1.0 w.1.1.0
     words : (a b c d e f g h i j : ℕ) → ◌≡◌ {A = List ℕ} (a ∷ b ∷ c ∷ d ∷ e ∷ []) (f ∷ g ∷ h ∷ i ∷ j ∷ []) → ◌≡◌ {A = SeedWords} (a, (b, (c, (d, e)))) (f, (g, (h, (i, j))))
     words a b c d e f g h i j q = cc
 
+one_seed : One IsSeed
+one_seed words l m f g =
+    let parts = same_words f.parts g.parts (sym f.same ∙ g.same) in
+    one_seed_words f.parts l m f.line (subst (λ (x : SeedWords). IsSeedWords x m) (sym parts) g.line)
+
 pub one_text : (t : TraceValue) (z w : Bytes) → IsTraceText t z → IsTraceText t w → z ≡ w
 one_text t z w f g =
-    let words = same_words f.words g.words (sym f.seeds ∙ g.seeds) in
     f.is
     ∙ both (one_format 1 f.format_line g.format_line f.format g.format)
     (both (one_threads (t.sizes.default, t.sizes.interactive) f.threads_line g.threads_line f.threads g.threads)
-    (both (one_seed f.words f.seed_line g.seed_line f.seed (subst (λ (x : SeedWords). IsSeed x g.seed_line) (sym words) g.seed))
+    (both (one_seed t.seeds.words f.seed_line g.seed_line f.seed g.seed)
     (both (one_turns t.limits.turns f.turns_line g.turns_line f.turns g.turns)
     (both (one_events t.limits.events f.events_line g.events_line f.events g.events)
     (both (one_length (length t.script) f.length_line g.length_line f.script_length g.script_length)

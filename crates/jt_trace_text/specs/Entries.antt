@@ -7,7 +7,7 @@ use Rattle.jt_base.specs.declared.operation.Op.TheVariants as op
 use Rattle.jt_base.specs.declared.operation.Reply.{Reply}
 use Rattle.jt_base.specs.declared.operation.Reply.TheVariants as reply
 use Rattle.jt_trace_text.specs.Lines.{Bytes}
-use Rattle.jt_trace_text.specs.Words.{most_u32, IsNumber, Signed, flag_text, path_text, IsPath, value_text, IsValue}
+use Rattle.jt_trace_text.specs.Words.{most_u32, IsDecimal, Signed, flag_text, path_text, IsPath, value_text, IsValue}
 use Rattle.jt_trace_text.specs.Operations.{spaced, operation_text, FitsOperation}
 
 -- ---- replies
@@ -47,8 +47,8 @@ entry_line e = spaced (decimal e.stamp) ++ (spaced (decimal e.worker) ++ (spaced
 
 -- an entry whose stamp is at most so much
 pub record IsEntry (most : ℕ) (e : Entry) (l : Bytes) : Type 0 where
-  pub stamp : IsNumber 1 most e.stamp (decimal e.stamp)
-  pub worker : IsNumber 0 most_u32 e.worker (decimal e.worker)
+  pub stamp : IsDecimal 1 most e.stamp (decimal e.stamp)
+  pub worker : IsDecimal 0 most_u32 e.worker (decimal e.worker)
   pub task : IsPath e.task (path_text e.task)
   pub op : FitsOperation e.op
   pub reply : FitsReply (is_fetch e.op) e.reply

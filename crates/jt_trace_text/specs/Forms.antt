@@ -1,5 +1,5 @@
 -- Forms of a part of a text: which bytes spell a value there.
-use Rattle.std.specs.Prelude.{◌≡◌, ℕ, List, [], ◌∷◌, ◌++◌}
+use Rattle.std.specs.Prelude.{◌≡◌, ℕ, [], ◌∷◌, ◌++◌}
 use Rattle.jt_trace_text.specs.Lines.{Bytes}
 
 -- a word, and the byte that ends it
@@ -9,7 +9,7 @@ pub record IsField {A : Type 0} (ending : ℕ) (Form : A → Bytes → Type 0) (
   pub is : l ≡ word ++ ending ∷ []
 
 -- a part of one form, and behind it one of a form that may depend on the first value
-pub record IsPair {A B : Type 0} (First : A → Bytes → Type 0) (Second : A → B → Bytes → Type 0) (p : A × B) (l : Bytes) : Type 0 where
+pub record IsTwoParts {A B : Type 0} (First : A → Bytes → Type 0) (Second : A → B → Bytes → Type 0) (p : A × B) (l : Bytes) : Type 0 where
   pub front : Bytes
   pub back : Bytes
   pub first : First p.0 front

@@ -5,3 +5,7 @@ pub mod Operations
 pub mod Entries
 pub mod Texts
 pub mod Written
+pub mod Readers
+pub mod WordReaders
+pub mod EntryReaders
+pub mod TextReaders

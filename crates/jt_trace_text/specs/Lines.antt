@@ -22,15 +22,15 @@ pub record SameLines (n : ℕ) (z w : Bytes) : Type 0 where
   pub second : first_lines n w ≡ Some lines
 
 -- the first n lines of z are those of a text of this kind
-abbrev pub Begins : (Bytes → Type 0) → ℕ → Bytes → Type 0
-Begins Kind n z = (w : Bytes) × Kind w × SameLines n z w
+abbrev pub BeginsOne : (Bytes → Type 0) → ℕ → Bytes → Type 0
+BeginsOne Kind n z = (w : Bytes) × Kind w × SameLines n z w
 
 -- z is no text of this kind: its first n lines begin one, and with the next line they begin none
-pub record Stops (Kind : Bytes → Type 0) (n : ℕ) (z : Bytes) : Type 0 where
-  pub begins : Begins Kind n z
-  pub no_more : Begins Kind (suc n) z → ⊥
+pub record StopsAfter (Kind : Bytes → Type 0) (n : ℕ) (z : Bytes) : Type 0 where
+  pub begins : BeginsOne Kind n z
+  pub no_more : BeginsOne Kind (suc n) z → ⊥
   pub no_text : Kind z → ⊥
 
 -- line k, counted from 1, is the first that isn't one of a text of this kind
 abbrev pub IsFirstBad : (Bytes → Type 0) → ℕ → Bytes → Type 0
-IsFirstBad Kind k z = (n : ℕ) × (k ≡ suc n) × Stops Kind n z
+IsFirstBad Kind k z = (n : ℕ) × (k ≡ suc n) × StopsAfter Kind n z

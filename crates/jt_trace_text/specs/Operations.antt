@@ -1,10 +1,10 @@
 -- Operations as they stand in an entry's line: a word, and each argument behind a space.
-use Rattle.std.specs.Prelude.{◌≡◌, ℕ, Bool, List, [], ◌∷◌, ◌++◌, codes, decimal}
+use Rattle.std.specs.Prelude.{◌≡◌, ℕ, [], ◌∷◌, ◌++◌, codes, decimal}
 use Rattle.std.specs.Fmt.{signed_decimal}
 use Rattle.jt_base.specs.declared.operation.Op.{Op}
 use Rattle.jt_base.specs.declared.operation.Op.TheVariants as op
 use Rattle.jt_trace_text.specs.Lines.{Bytes}
-use Rattle.jt_trace_text.specs.Words.{most_u64, IsNumber, IsInt, flag_text, path_text, IsPath, name_text, IsName, hex_text, IsHex, how_text, IsHow, value_text, IsValue, fault_text, IsFault}
+use Rattle.jt_trace_text.specs.Words.{most_u64, IsDecimal, IsInt, flag_text, path_text, IsPath, name_text, IsNameWord, hex_text, IsHex, how_text, IsHow, value_text, IsValue, fault_text, IsFault}
 
 -- a word and the space behind it
 abbrev pub spaced : Bytes → Bytes
@@ -65,36 +65,36 @@ FitsOperation (op.Fetch p) = IsPath p (path_text p)
 FitsOperation (op.Wait p) = IsPath p (path_text p)
 FitsOperation op.Yield = Unit {0}
 FitsOperation (op.Print t) = IsHex t (hex_text t)
-FitsOperation (op.NewChannel n c) = IsName n (name_text n) × IsNumber 0 most_capacity c (decimal c)
-FitsOperation (op.NewAtomic n z) = IsName n (name_text n) × IsInt z (signed_decimal z)
-FitsOperation (op.NewEvent n b) = IsName n (name_text n)
-FitsOperation (op.NewCondition n) = IsName n (name_text n)
-FitsOperation (op.NewLock n) = IsName n (name_text n)
-FitsOperation (op.NewSemaphore n k) = IsName n (name_text n) × IsNumber 0 most_u64 k (decimal k)
-FitsOperation (op.Put n z) = IsName n (name_text n) × IsInt z (signed_decimal z)
-FitsOperation (op.Offer n z) = IsName n (name_text n) × IsInt z (signed_decimal z)
-FitsOperation (op.Landed n k) = IsName n (name_text n) × IsNumber 0 most_u64 k (decimal k)
-FitsOperation (op.Take n) = IsName n (name_text n)
-FitsOperation (op.Next n) = IsName n (name_text n)
-FitsOperation (op.Close n) = IsName n (name_text n)
-FitsOperation (op.IsOpen n) = IsName n (name_text n)
-FitsOperation (op.IsReady n) = IsName n (name_text n)
-FitsOperation (op.Notify n) = IsName n (name_text n)
-FitsOperation (op.Reset n) = IsName n (name_text n)
-FitsOperation (op.EWait n) = IsName n (name_text n)
-FitsOperation (op.Lock n) = IsName n (name_text n)
-FitsOperation (op.Unlock n) = IsName n (name_text n)
-FitsOperation (op.CWait n) = IsName n (name_text n)
-FitsOperation (op.CBack n) = IsName n (name_text n)
-FitsOperation (op.CNotify n b) = IsName n (name_text n)
-FitsOperation (op.Acquire n) = IsName n (name_text n)
-FitsOperation (op.Release n) = IsName n (name_text n)
-FitsOperation (op.AGet n) = IsName n (name_text n)
-FitsOperation (op.ASet n z) = IsName n (name_text n) × IsInt z (signed_decimal z)
-FitsOperation (op.AAdd n z) = IsName n (name_text n) × IsInt z (signed_decimal z)
-FitsOperation (op.ASub n z) = IsName n (name_text n) × IsInt z (signed_decimal z)
-FitsOperation (op.AXchg n z) = IsName n (name_text n) × IsInt z (signed_decimal z)
-FitsOperation (op.ACas n z y) = IsName n (name_text n) × IsInt z (signed_decimal z) × IsInt y (signed_decimal y)
+FitsOperation (op.NewChannel n c) = IsNameWord n (name_text n) × IsDecimal 0 most_capacity c (decimal c)
+FitsOperation (op.NewAtomic n z) = IsNameWord n (name_text n) × IsInt z (signed_decimal z)
+FitsOperation (op.NewEvent n b) = IsNameWord n (name_text n)
+FitsOperation (op.NewCondition n) = IsNameWord n (name_text n)
+FitsOperation (op.NewLock n) = IsNameWord n (name_text n)
+FitsOperation (op.NewSemaphore n k) = IsNameWord n (name_text n) × IsDecimal 0 most_u64 k (decimal k)
+FitsOperation (op.Put n z) = IsNameWord n (name_text n) × IsInt z (signed_decimal z)
+FitsOperation (op.Offer n z) = IsNameWord n (name_text n) × IsInt z (signed_decimal z)
+FitsOperation (op.Landed n k) = IsNameWord n (name_text n) × IsDecimal 0 most_u64 k (decimal k)
+FitsOperation (op.Take n) = IsNameWord n (name_text n)
+FitsOperation (op.Next n) = IsNameWord n (name_text n)
+FitsOperation (op.Close n) = IsNameWord n (name_text n)
+FitsOperation (op.IsOpen n) = IsNameWord n (name_text n)
+FitsOperation (op.IsReady n) = IsNameWord n (name_text n)
+FitsOperation (op.Notify n) = IsNameWord n (name_text n)
+FitsOperation (op.Reset n) = IsNameWord n (name_text n)
+FitsOperation (op.EWait n) = IsNameWord n (name_text n)
+FitsOperation (op.Lock n) = IsNameWord n (name_text n)
+FitsOperation (op.Unlock n) = IsNameWord n (name_text n)
+FitsOperation (op.CWait n) = IsNameWord n (name_text n)
+FitsOperation (op.CBack n) = IsNameWord n (name_text n)
+FitsOperation (op.CNotify n b) = IsNameWord n (name_text n)
+FitsOperation (op.Acquire n) = IsNameWord n (name_text n)
+FitsOperation (op.Release n) = IsNameWord n (name_text n)
+FitsOperation (op.AGet n) = IsNameWord n (name_text n)
+FitsOperation (op.ASet n z) = IsNameWord n (name_text n) × IsInt z (signed_decimal z)
+FitsOperation (op.AAdd n z) = IsNameWord n (name_text n) × IsInt z (signed_decimal z)
+FitsOperation (op.ASub n z) = IsNameWord n (name_text n) × IsInt z (signed_decimal z)
+FitsOperation (op.AXchg n z) = IsNameWord n (name_text n) × IsInt z (signed_decimal z)
+FitsOperation (op.ACas n z y) = IsNameWord n (name_text n) × IsInt z (signed_decimal z) × IsInt y (signed_decimal y)
 
 pub record IsOperation (o : Op) (l : Bytes) : Type 0 where
   pub fits : FitsOperation o

@@ -1,5 +1,5 @@
 -- The relation between texts and traces: one line after the other.
-use Rattle.std.specs.Prelude.{◌≡◌, ℕ, Bool, true, ◌||◌, not, ◌==◌, nat_lt, List, [], ◌∷◌, ◌++◌, length, slice_index, codes, decimal, IsUtf8}
+use Rattle.std.specs.Prelude.{◌≡◌, ℕ, true, ◌||◌, not, ◌==◌, nat_lt, List, [], ◌∷◌, ◌++◌, length, slice_index, codes, IsUtf8}
 use Rattle.std.specs.Str.{all_ascii_digits}
 use Rattle.std.specs.Str.Parse.{digits_value}
 use Rattle.jt_base.specs.declared.entry.Entry.{Entry}
@@ -8,8 +8,8 @@ use Rattle.jt_base.specs.declared.run.Seeds.{Seeds}
 use Rattle.jt_base.specs.declared.run.Sizes.{Sizes}
 use Rattle.jt_base.specs.Limits.{most_script}
 use Rattle.jt_trace_text.specs.Lines.{Bytes}
-use Rattle.jt_trace_text.specs.Forms.{IsField, IsPair, IsBehind}
-use Rattle.jt_trace_text.specs.Words.{most_u64, IsNumber}
+use Rattle.jt_trace_text.specs.Forms.{IsField, IsTwoParts, IsBehind}
+use Rattle.jt_trace_text.specs.Words.{most_u64, IsDecimal}
 use Rattle.jt_trace_text.specs.Entries.{AreEntries}
 
 -- a trace, seen without where it lies in memory
@@ -23,16 +23,16 @@ pub record TraceValue : Type 0 where
 -- ---- the lines before the script
 
 -- a number and the byte that ends it
-abbrev pub Number : ℕ → ℕ → ℕ → ℕ → Bytes → Type 0
-Number ending low high = IsField ending (IsNumber low high)
+abbrev pub IsNumberField : ℕ → ℕ → ℕ → ℕ → Bytes → Type 0
+IsNumberField ending low high = IsField ending (IsDecimal low high)
 
 -- the number of the format, of which there is one
 abbrev pub IsFormat : ℕ → Bytes → Type 0
-IsFormat = IsBehind (codes "julia-tasks trace ") (Number 10 1 1)
+IsFormat = IsBehind (codes "julia-tasks trace ") (IsNumberField 10 1 1)
 
 -- the default workers, a comma, the interactive ones
 abbrev pub IsThreads : ℕ × ℕ → Bytes → Type 0
-IsThreads = IsBehind (codes "threads ") (IsPair (Number 44 1 64) (λ n. Number 10 0 16))
+IsThreads = IsBehind (codes "threads ") (IsTwoParts (IsNumberField 44 1 64) (λ n. IsNumberField 10 0 16))
 
 -- five words of 64 bits
 abbrev pub SeedWords : Type 0
@@ -42,20 +42,26 @@ abbrev pub words_of : SeedWords → List ℕ
 words_of w = w.0 ∷ w.1.0 ∷ w.1.1.0 ∷ w.1.1.1.0 ∷ w.1.1.1.1 ∷ []
 
 abbrev pub SeedWord : ℕ → ℕ → Bytes → Type 0
-SeedWord ending = Number ending 0 most_u64
+SeedWord ending = IsNumberField ending 0 most_u64
 
-abbrev pub IsSeed : SeedWords → Bytes → Type 0
-IsSeed = IsBehind (codes "seed ") (IsPair (SeedWord 44) (λ a. IsPair (SeedWord 44) (λ b. IsPair (SeedWord 44) (λ c. IsPair (SeedWord 44) (λ d. SeedWord 10)))))
+abbrev pub IsSeedWords : SeedWords → Bytes → Type 0
+IsSeedWords = IsBehind (codes "seed ") (IsTwoParts (SeedWord 44) (λ a. IsTwoParts (SeedWord 44) (λ b. IsTwoParts (SeedWord 44) (λ c. IsTwoParts (SeedWord 44) (λ d. SeedWord 10)))))
+
+-- the same of a list
+pub record IsSeed (words : List ℕ) (l : Bytes) : Type 0 where
+  pub parts : SeedWords
+  pub same : words ≡ words_of parts
+  pub line : IsSeedWords parts l
 
 abbrev pub IsTurns : ℕ → Bytes → Type 0
-IsTurns = IsBehind (codes "max-turns ") (Number 10 1 1000000000)
+IsTurns = IsBehind (codes "max-turns ") (IsNumberField 10 1 1000000000)
 
 abbrev pub IsEvents : ℕ → Bytes → Type 0
-IsEvents = IsBehind (codes "max-events ") (Number 10 1 262144)
+IsEvents = IsBehind (codes "max-events ") (IsNumberField 10 1 262144)
 
 -- how many bytes the script has
 abbrev pub IsLength : ℕ → Bytes → Type 0
-IsLength = IsBehind (codes "script ") (Number 10 0 most_script)
+IsLength = IsBehind (codes "script ") (IsNumberField 10 0 most_script)
 
 -- ---- the script and the number of entries
 
@@ -83,10 +89,8 @@ pub record IsTraceText (t : TraceValue) (z : Bytes) : Type 0 where
   pub format : IsFormat 1 format_line
   pub threads_line : Bytes
   pub threads : IsThreads (t.sizes.default, t.sizes.interactive) threads_line
-  pub words : SeedWords
-  pub seeds : t.seeds.words ≡ words_of words
   pub seed_line : Bytes
-  pub seed : IsSeed words seed_line
+  pub seed : IsSeed t.seeds.words seed_line
   pub turns_line : Bytes
   pub turns : IsTurns t.limits.turns turns_line
   pub events_line : Bytes

@@ -25,7 +25,7 @@ abbrev pub most_u64 : ℕ
 most_u64 = 18446744073709551615
 
 -- decimal without leading zeros, from the least to the most
-pub record IsNumber (least most n : ℕ) (w : Bytes) : Type 0 where
+pub record IsDecimal (least most n : ℕ) (w : Bytes) : Type 0 where
   pub small : n < 2 ^ 64
   pub low : least ≤ n
   pub high : n ≤ most
@@ -68,7 +68,7 @@ pub record IsPath (path : List ℕ) (w : Bytes) : Type 0 where
 abbrev pub name_text : Name → Bytes
 name_text name = path_text name.path ++ (codes "#" ++ decimal name.number)
 
-pub record IsName (name : Name) (w : Bytes) : Type 0 where
+pub record IsNameWord (name : Name) (w : Bytes) : Type 0 where
   pub path : IsPath name.path (path_text name.path)
   pub number : name.number ≤ most_u32
   pub is : w ≡ name_text name
@@ -120,7 +120,7 @@ value_text (value.Object k name) = kind_text k ++ (codes ":" ++ name_text name)
 abbrev pub FitsValue : Value → Type 0
 FitsValue (value.Int z) = Signed z
 FitsValue (value.Task path) = IsPath path (path_text path)
-FitsValue (value.Object k name) = IsName name (name_text name)
+FitsValue (value.Object k name) = IsNameWord name (name_text name)
 FitsValue v = Unit {0}
 
 pub record IsValue (v : Value) (w : Bytes) : Type 0 where

@@ -2,6 +2,8 @@
 //! them.
 #![tactic(auto)]
 
+mod keywords;
 mod laws;
 
-pub use laws::trace_has_one_text;
+pub use keywords::{NumberWord, ObjectWord};
+pub use laws::{one_line_is_first_bad, text_has_one_trace, trace_has_one_text};
