@@ -11,17 +11,17 @@ use Rattle.jt_program.specs.Plan.{Plan}
 use Rattle.jt_program.specs.View.{plan_of}
 use Rattle.jt_bound.specs.Bound.{Numbers}
 use Rattle.jt_bound.specs.Made.{made}
-use Rattle.jt_bound.specs.States.{State}
+use Rattle.jt_bound.specs.States.{WalkState}
 use Rattle.jt_bound.specs.Walked.{walked}
 use Rattle.jt_bound.proofs.Outcomes.{code_made}
 
 -- what is made of a tree is made of what is the same
-pub seen : {E : Type 0} (r : Result Code E) (x : Numbers) (s later : State) (e f : Tree) → e ≡ f → IfOk r (λ p. walked x s f ≡ made (plan_of p) later) → IfOk r (λ p. walked x s e ≡ made (plan_of p) later)
+pub seen : {E : Type 0} (r : Result Code E) (x : Numbers) (s later : WalkState) (e f : Tree) → e ≡ f → IfOk r (λ p. walked x s f ≡ made (plan_of p) later) → IfOk r (λ p. walked x s e ≡ made (plan_of p) later)
 seen (Ok p) x s later e f h g = ap (walked x s) h ∙ g
 seen (Err y) x s later e f h g = g
 
 -- a plan that no part makes
-pub leaf : {E : Type 0} (r : Result Code E) (x : Numbers) (s : State) (e f : Tree) (q : Plan) → e ≡ f → walked x s f ≡ made q s → IfOk r (λ p. plan_of p ≡ q) → IfOk r (λ p. walked x s e ≡ made (plan_of p) s)
+pub leaf : {E : Type 0} (r : Result Code E) (x : Numbers) (s : WalkState) (e f : Tree) (q : Plan) → e ≡ f → walked x s f ≡ made q s → IfOk r (λ p. plan_of p ≡ q) → IfOk r (λ p. walked x s e ≡ made (plan_of p) s)
 leaf r x s e f q h g i = code_made r (walked x s e) q s (ap (walked x s) h ∙ g) i
 
 pub view-Truth : (b : Bool) → view (expr.Truth b) ≡ tree.truth b

@@ -10,8 +10,8 @@ use Rattle.jt_program.specs.Plan.{Plan, Plans, Choices}
 use Rattle.jt_program.specs.Plan as plan
 use Rattle.jt_bound.specs.Behind.{choice_before, last_view}
 use Rattle.jt_bound.specs.Bound.{Numbers}
-use Rattle.jt_bound.specs.Made.{Made, made, with, both, three, four}
-use Rattle.jt_bound.specs.States.{State}
+use Rattle.jt_bound.specs.Made.{WalkResult, made, with, both, three, four}
+use Rattle.jt_bound.specs.States.{WalkState}
 use Rattle.jt_bound.specs.Walked.{walked, walked_arms, walked_otherwise, walked_steps}
 
 abbrev applied : (Choices → Choices) → Choices → Choices
@@ -22,15 +22,15 @@ abbrev arm_choice : Plan → Plans → Choices → Choices
 arm_choice p ps arms = plan.choice p (plan.block ps) arms
 
 -- an arm's parts, and what is made of the arms behind it
-abbrev arm_first : Numbers → State → Tree × Steps → Made State (Choices → Choices)
+abbrev arm_first : Numbers → WalkState → Tree × Steps → WalkResult WalkState (Choices → Choices)
 arm_first x s a = both arm_choice (walked x s a.0) (λ s. walked_steps x s a.1)
 
-arms_else : (x : Numbers) (s : State) (arms : List (Tree × Steps)) (last : Option (List Stmt)) → walked_arms x s (arms_of arms (last_view last)) ≡ walked_arms x s (arms_of arms tree.no_arms)
+arms_else : (x : Numbers) (s : WalkState) (arms : List (Tree × Steps)) (last : Option (List Stmt)) → walked_arms x s (arms_of arms (last_view last)) ≡ walked_arms x s (arms_of arms tree.no_arms)
 arms_else x s [] None = refl
 arms_else x s [] (Some ss) = refl
 arms_else x s (a ∷ arms) last = ap (with (arm_first x s a).it) (arms_else x (arm_first x s a).state arms last)
 
-otherwise_alone : (x : Numbers) (s : State) (arms : List (Tree × Steps)) (last : Arms) → walked_otherwise x s (arms_of arms last) ≡ walked_otherwise x s last
+otherwise_alone : (x : Numbers) (s : WalkState) (arms : List (Tree × Steps)) (last : Arms) → walked_otherwise x s (arms_of arms last) ≡ walked_otherwise x s last
 otherwise_alone x s [] last = refl
 otherwise_alone x s (a ∷ arms) last = otherwise_alone x s arms last
 
@@ -38,7 +38,7 @@ otherwise_alone x s (a ∷ arms) last = otherwise_alone x s arms last
 arm_view_parts : (a : script_arm.Arm) → arm_view a ≡ (view a.condition, stmt_views a.body)
 arm_view_parts a = search (rules, expr_lemmas)
 
-pub arm_made : (x : Numbers) (s s1 s2 : State) (a : script_arm.Arm) (body : List Stmt) (p q : Plan) (rest : State → Made State Choices)
+pub arm_made : (x : Numbers) (s s1 s2 : WalkState) (a : script_arm.Arm) (body : List Stmt) (p q : Plan) (rest : WalkState → WalkResult WalkState Choices)
     → walked x s (view a.condition) ≡ made p s1 → with plan.block (walked_steps x s1 (stmt_views body)) ≡ made q s2 → body ≡ a.body
     → both applied (arm_first x s (arm_view a)) rest ≡ with (choice_before (p, q)) (rest s2)
 arm_made x s s1 s2 a body p q rest h1 h2 e =
@@ -55,7 +55,7 @@ branch_of t b arms last = plan.branch (plan.choice t b arms) last
 abbrev block_branch : Plan → Plans → Choices → Plan → Plan
 block_branch t ps arms last = branch_of t (plan.block ps) arms last
 
-pub branch_made : (x : Numbers) (s s1 s2 s3 s4 : State) (t : Tree) (ss : Steps) (arms : List (Tree × Steps)) (last : Option (List Stmt)) (p b : Plan) (qs : Choices) (q : Plan)
+pub branch_made : (x : Numbers) (s s1 s2 s3 s4 : WalkState) (t : Tree) (ss : Steps) (arms : List (Tree × Steps)) (last : Option (List Stmt)) (p b : Plan) (qs : Choices) (q : Plan)
     → walked x s t ≡ made p s1 → with plan.block (walked_steps x s1 ss) ≡ made b s2 → walked_arms x s2 (arms_of arms tree.no_arms) ≡ made qs s3 → walked_otherwise x s3 (last_view last) ≡ made q s4
     → walked x s (tree.branches t ss (arms_of arms (last_view last))) ≡ made (branch_of p b qs q) s4
 branch_made x s s1 s2 s3 s4 t ss arms last p b qs q h1 h2 h3 h4 =

@@ -19,10 +19,10 @@ use Rattle.jt_lowered.specs.Nodes.{before}
 use Rattle.jt_lowered.proofs.Pushed.{before_pushed}
 use Rattle.jt_scopes.specs.declared.scope.Scope.{Scope}
 use Rattle.jt_bound.specs.Bound.{Numbers, bound, bound_operands, bound_comparisons, bound_connected, bound_leap}
-use Rattle.jt_bound.specs.Made.{Made, made, with, both, three}
+use Rattle.jt_bound.specs.Made.{WalkResult, made, with, both, three}
 
 -- the operands as `Bound` has them, each behind its operator
-abbrev pub bound_terms : Numbers → List Scope → List BodyPlan → Terms → Made (List BodyPlan) (List (BinaryOperator × Plan))
+abbrev pub bound_terms : Numbers → List Scope → List BodyPlan → Terms → WalkResult (List BodyPlan) (List (BinaryOperator × Plan))
 bound_terms x c s tree.no_terms = made [] s
 bound_terms x c s (tree.term o e es) = both (λ p ps. (o, p) ∷ ps) (bound x c s e) (λ s. bound_terms x c s es)
 
@@ -87,8 +87,8 @@ none_connected connective.And = refl
 before_jump : (x : Numbers) (c : List Scope) (s : List BodyPlan) (k : Connective) (p : Plan) (es : Terms) (l : Leap)
     → both (λ ts q. guarded k p ts q) (bound_terms x c s es) (λ s. bound_leap x c s l) ≡ both (λ ps q. plan.connection k p (before ps (plan.plan q plan.no_plans))) (bound_connected x c s es) (λ s. bound_leap x c s l)
 before_jump x c s k p es l =
-    let terms : Made (List BodyPlan) (List (BinaryOperator × Plan)) = bound_terms x c s es in
-    let last : Made (List BodyPlan) Plan = bound_leap x c terms.state l in
+    let terms : WalkResult (List BodyPlan) (List (BinaryOperator × Plan)) = bound_terms x c s es in
+    let last : WalkResult (List BodyPlan) Plan = bound_leap x c terms.state l in
     let plain : List Plan = map plan_in terms.it in
     ap (λ ps. made (guard_of k ps last.it p) last.state) (ap (λ ps. all_more ps terms.it) (none_connected k) ∙ all_behind (connected k) plan_in (λ done t. refl) [] terms.it)
     ∙ (ap (λ ps. made (plan.connection k p ps) last.state) (before_pushed plain (plain ++ last.it ∷ []) last.it refl)

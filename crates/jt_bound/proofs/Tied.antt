@@ -19,19 +19,19 @@ use Rattle.jt_lowered.specs.Loops.{TurnPlan, turn_of, while_of, for_of}
 use Rattle.jt_lowered.specs.Chains.{chained, guarded}
 use Rattle.jt_bound.specs.Bound.{Numbers, piece_of, loop_scope, task_scope, sync_scope, bound, bound_all, bound_pieces, bound_arms, bound_otherwise, bound_leap, bound_step, bound_steps}
 use Rattle.jt_lowered.specs.Lowered.{written, operated, updated, callee_of}
-use Rattle.jt_bound.specs.Made.{Made, made, with, both, three, four}
+use Rattle.jt_bound.specs.Made.{WalkResult, made, with, both, three, four}
 use Rattle.jt_bound.specs.Making.{making_of}
 use Rattle.jt_bound.specs.Slots.{target, slot_of}
-use Rattle.jt_bound.specs.States.{State, standing, entered, within, turned, forked}
+use Rattle.jt_bound.specs.States.{WalkState, standing, entered, within, turned, forked}
 use Rattle.jt_bound.proofs.Chains.{bound_terms, chain_bound, guard_bound}
 use Rattle.jt_bound.specs.Walked.{walked, walked_all, walked_pieces, walked_terms, walked_arms, walked_otherwise, walked_leap, walked_step, walked_steps}
 
 -- what was made in the scopes c, with these scopes still to begin
-abbrev pub lifted : {A : Type 0} → List Scope → List Scope → Made (List BodyPlan) A → Made State A
+abbrev pub lifted : {A : Type 0} → List Scope → List Scope → WalkResult (List BodyPlan) A → WalkResult WalkState A
 lifted c l m = made m.it (standing c l m.state)
 
 -- in the scopes c, where l are still to begin, a part of the walk makes what it is to, and leaves k
-pub record Ties {A : Type 0} (c l k : List Scope) (w : State → Made State A) (m : List BodyPlan → Made (List BodyPlan) A) : Type 0 where
+pub record Ties {A : Type 0} (c l k : List Scope) (w : WalkState → WalkResult WalkState A) (m : List BodyPlan → WalkResult (List BodyPlan) A) : Type 0 where
   pub ties : (s : List BodyPlan) → w (standing c l s) ≡ lifted c k (m s)
 
 -- what makes nothing of its own
@@ -39,27 +39,27 @@ pub none_tied : {A : Type 0} (c l : List Scope) (a : A) → Ties c l l (λ t. ma
 none_tied c l a = record { ties = λ s. refl }
 
 -- what is made may be said in another way
-same_tied : {A : Type 0} {c l k : List Scope} {w : State → Made State A} {m n : List BodyPlan → Made (List BodyPlan) A} → ((s : List BodyPlan) → m s ≡ n s) → Ties c l k w m → Ties c l k w n
+same_tied : {A : Type 0} {c l k : List Scope} {w : WalkState → WalkResult WalkState A} {m n : List BodyPlan → WalkResult (List BodyPlan) A} → ((s : List BodyPlan) → m s ≡ n s) → Ties c l k w m → Ties c l k w n
 same_tied {c = c} {k = k} e p = record { ties = λ s. p.ties s ∙ ap (lifted c k) (e s) }
 
 -- one part, two, three and four
-pub one_tied : {A B : Type 0} {c l k : List Scope} {w : State → Made State A} {m : List BodyPlan → Made (List BodyPlan) A} (f : A → B) → Ties c l k w m → Ties c l k (λ t. with f (w t)) (λ s. with f (m s))
+pub one_tied : {A B : Type 0} {c l k : List Scope} {w : WalkState → WalkResult WalkState A} {m : List BodyPlan → WalkResult (List BodyPlan) A} (f : A → B) → Ties c l k w m → Ties c l k (λ t. with f (w t)) (λ s. with f (m s))
 one_tied f p = record { ties = λ s. ap (with f) (p.ties s) }
 
-pub both_tied : {A B C : Type 0} {c l k j : List Scope} {w : State → Made State A} {m : List BodyPlan → Made (List BodyPlan) A} {v : State → Made State B} {n : List BodyPlan → Made (List BodyPlan) B} (f : A → B → C)
+pub both_tied : {A B C : Type 0} {c l k j : List Scope} {w : WalkState → WalkResult WalkState A} {m : List BodyPlan → WalkResult (List BodyPlan) A} {v : WalkState → WalkResult WalkState B} {n : List BodyPlan → WalkResult (List BodyPlan) B} (f : A → B → C)
     → Ties c l k w m → Ties c k j v n → Ties c l j (λ t. both f (w t) v) (λ s. both f (m s) n)
 both_tied {m = m} {v = v} f p q = record { ties = λ s. ap (λ u. both f u v) (p.ties s) ∙ ap (with (f (m s).it)) (q.ties (m s).state) }
 
 abbrev apply : {A B : Type 0} → (A → B) → A → B
 apply g a = g a
 
-three_tied : {A B C D : Type 0} {c l k j i : List Scope} {w : State → Made State A} {m : List BodyPlan → Made (List BodyPlan) A} {v : State → Made State B} {n : List BodyPlan → Made (List BodyPlan) B}
-    {u : State → Made State C} {o : List BodyPlan → Made (List BodyPlan) C} (f : A → B → C → D)
+three_tied : {A B C D : Type 0} {c l k j i : List Scope} {w : WalkState → WalkResult WalkState A} {m : List BodyPlan → WalkResult (List BodyPlan) A} {v : WalkState → WalkResult WalkState B} {n : List BodyPlan → WalkResult (List BodyPlan) B}
+    {u : WalkState → WalkResult WalkState C} {o : List BodyPlan → WalkResult (List BodyPlan) C} (f : A → B → C → D)
     → Ties c l k w m → Ties c k j v n → Ties c j i u o → Ties c l i (λ t. three f (w t) v u) (λ s. three f (m s) n o)
 three_tied f p q r = both_tied apply (both_tied f p q) r
 
-four_tied : {A B C D E : Type 0} {c l k j i h : List Scope} {w : State → Made State A} {m : List BodyPlan → Made (List BodyPlan) A} {v : State → Made State B} {n : List BodyPlan → Made (List BodyPlan) B}
-    {u : State → Made State C} {o : List BodyPlan → Made (List BodyPlan) C} {y : State → Made State D} {z : List BodyPlan → Made (List BodyPlan) D} (f : A → B → C → D → E)
+four_tied : {A B C D E : Type 0} {c l k j i h : List Scope} {w : WalkState → WalkResult WalkState A} {m : List BodyPlan → WalkResult (List BodyPlan) A} {v : WalkState → WalkResult WalkState B} {n : List BodyPlan → WalkResult (List BodyPlan) B}
+    {u : WalkState → WalkResult WalkState C} {o : List BodyPlan → WalkResult (List BodyPlan) C} {y : WalkState → WalkResult WalkState D} {z : List BodyPlan → WalkResult (List BodyPlan) D} (f : A → B → C → D → E)
     → Ties c l k w m → Ties c k j v n → Ties c j i u o → Ties c i h y z → Ties c l h (λ t. four f (w t) v u y) (λ s. four f (m s) n o z)
 four_tied f p q r e = both_tied apply (three_tied f p q r) e
 

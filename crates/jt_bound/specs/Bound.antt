@@ -21,7 +21,7 @@ use Rattle.jt_scopes.specs.Scopes.{scope_of}
 use Rattle.jt_scopes.specs.Slots.{first}
 use Rattle.jt_lowered.specs.Nodes.{before}
 use Rattle.jt_lowered.specs.Lowered.{written, number_literal, least_literal, greatest_literal, nothing_literal, operation_of, comparison_of, operated, updated, callee_of}
-use Rattle.jt_bound.specs.Made.{Made, made, with, both, three, four}
+use Rattle.jt_bound.specs.Made.{WalkResult, made, with, both, three, four}
 use Rattle.jt_bound.specs.Making.{making_of, spawned}
 use Rattle.jt_bound.specs.Slots.{target, interpolated, slot_of}
 
@@ -55,7 +55,7 @@ for_in r c a b ps = plan.for (first r c) (length r.names) a b (plan.block ps)
 -- x: what names go by; c: the scopes round the tree; s: the bodies of the tasks before it. A task of an
 -- `@async` or for a pool is made like any other.
 abbrev mutual
-  pub bound : Numbers → List Scope → List BodyPlan → Tree → Made (List BodyPlan) Plan
+  pub bound : Numbers → List Scope → List BodyPlan → Tree → WalkResult (List BodyPlan) Plan
   bound x c s (tree.text t) = made nothing_literal s
   bound x c s (tree.number n) = made (number_literal n) s
   bound x c s (tree.truth b) = made (plan.literal (literal.Flag b)) s
@@ -93,46 +93,46 @@ abbrev mutual
   bound x c s (tree.sync e) = with plan.sync (bound x (sync_scope c e ∷ c) s e)
   bound x c s (tree.threads at o i a b ss) = made nothing_literal s
 
-  pub bound_all : Numbers → List Scope → List BodyPlan → Trees → Made (List BodyPlan) Plans
+  pub bound_all : Numbers → List Scope → List BodyPlan → Trees → WalkResult (List BodyPlan) Plans
   bound_all x c s tree.no_trees = made plan.no_plans s
   bound_all x c s (tree.tree e es) = both plan.plan (bound x c s e) (λ s. bound_all x c s es)
 
-  pub bound_pieces : Numbers → List Scope → List BodyPlan → Trees → Made (List BodyPlan) Pieces
+  pub bound_pieces : Numbers → List Scope → List BodyPlan → Trees → WalkResult (List BodyPlan) Pieces
   bound_pieces x c s tree.no_trees = made plan.no_pieces s
   bound_pieces x c s (tree.tree e es) = both (λ p ps. piece_before (piece_of e p) ps) (bound x c s e) (λ s. bound_pieces x c s es)
 
-  pub bound_operands : Numbers → List Scope → List BodyPlan → Terms → Made (List BodyPlan) Operands
+  pub bound_operands : Numbers → List Scope → List BodyPlan → Terms → WalkResult (List BodyPlan) Operands
   bound_operands x c s tree.no_terms = made plan.no_operands s
   bound_operands x c s (tree.term o e es) = both (plan.operand (operation_of o)) (bound x c s e) (λ s. bound_operands x c s es)
 
-  pub bound_comparisons : Numbers → List Scope → List BodyPlan → Terms → Made (List BodyPlan) Comparisons
+  pub bound_comparisons : Numbers → List Scope → List BodyPlan → Terms → WalkResult (List BodyPlan) Comparisons
   bound_comparisons x c s tree.no_terms = made plan.no_comparisons s
   bound_comparisons x c s (tree.term o e es) = both (plan.compared (comparison_of o)) (bound x c s e) (λ s. bound_comparisons x c s es)
 
   -- operands of `&&` or `||`
-  pub bound_connected : Numbers → List Scope → List BodyPlan → Terms → Made (List BodyPlan) Plans
+  pub bound_connected : Numbers → List Scope → List BodyPlan → Terms → WalkResult (List BodyPlan) Plans
   bound_connected x c s tree.no_terms = made plan.no_plans s
   bound_connected x c s (tree.term o e es) = both plan.plan (bound x c s e) (λ s. bound_connected x c s es)
 
-  pub bound_arms : Numbers → List Scope → List BodyPlan → Arms → Made (List BodyPlan) Choices
+  pub bound_arms : Numbers → List Scope → List BodyPlan → Arms → WalkResult (List BodyPlan) Choices
   bound_arms x c s tree.no_arms = made plan.no_choices s
   bound_arms x c s (tree.otherwise ss) = made plan.no_choices s
   bound_arms x c s (tree.arm e ss arms) = three (λ t ps arms. plan.choice t (plan.block ps) arms) (bound x c s e) (λ s. bound_steps x c s ss) (λ s. bound_arms x c s arms)
 
   -- s: the bodies up to the end of the arms
-  pub bound_otherwise : Numbers → List Scope → List BodyPlan → Arms → Made (List BodyPlan) Plan
+  pub bound_otherwise : Numbers → List Scope → List BodyPlan → Arms → WalkResult (List BodyPlan) Plan
   bound_otherwise x c s tree.no_arms = made nothing_literal s
   bound_otherwise x c s (tree.otherwise ss) = with plan.block (bound_steps x c s ss)
   bound_otherwise x c s (tree.arm e ss arms) = bound_otherwise x c s arms
 
-  pub bound_leap : Numbers → List Scope → List BodyPlan → Leap → Made (List BodyPlan) Plan
+  pub bound_leap : Numbers → List Scope → List BodyPlan → Leap → WalkResult (List BodyPlan) Plan
   bound_leap x c s (tree.return_nothing at) = made (plan.return nothing_literal) s
   bound_leap x c s (tree.return_value at e) = with plan.return (bound x c s e)
   bound_leap x c s (tree.break_loop at) = made plan.break s
   bound_leap x c s (tree.continue_loop at) = made plan.continue s
 
   -- a guard is its operands with the jump as the last one
-  pub bound_step : Numbers → List Scope → List BodyPlan → Step → Made (List BodyPlan) Plan
+  pub bound_step : Numbers → List Scope → List BodyPlan → Step → WalkResult (List BodyPlan) Plan
   bound_step x c s (tree.assign i o e) = with (λ p. plan.assign (slot_of c i.name) (updated o (written (target x.constants c i.name)) p)) (bound x c s e)
   bound_step x c s (tree.store i e) = made nothing_literal s
   bound_step x c s (tree.jump l) = bound_leap x c s l
@@ -140,6 +140,6 @@ abbrev mutual
       three (λ p ps l. plan.connection k p (before ps (plan.plan l plan.no_plans))) (bound x c s e) (λ s. bound_connected x c s es) (λ s. bound_leap x c s l)
   bound_step x c s (tree.value e) = bound x c s e
 
-  pub bound_steps : Numbers → List Scope → List BodyPlan → Steps → Made (List BodyPlan) Plans
+  pub bound_steps : Numbers → List Scope → List BodyPlan → Steps → WalkResult (List BodyPlan) Plans
   bound_steps x c s tree.no_steps = made plan.no_plans s
   bound_steps x c s (tree.step t ts) = both plan.plan (bound_step x c s t) (λ s. bound_steps x c s ts)

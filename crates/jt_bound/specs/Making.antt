@@ -5,7 +5,7 @@ use Rattle.jt_program.specs.Plan as plan
 use Rattle.jt_lowered.specs.Nodes.{body_of}
 use Rattle.jt_scopes.specs.declared.scope.Scope.{Scope}
 use Rattle.jt_scopes.specs.Awaited.{is_awaited, is_synced}
-use Rattle.jt_bound.specs.Made.{Made}
+use Rattle.jt_bound.specs.Made.{WalkResult}
 use Rattle.jt_bound.specs.Slots.{slots_of}
 use Rattle.jt_bound.specs.declared.making.Making.{Making}
 
@@ -27,5 +27,5 @@ abbrev pub task_body : Making → Plan → BodyPlan
 task_body m p = body_of m.variables (synced m.is_synced p)
 
 -- the making of a task, whose body gets the next number: the main task's is 0
-abbrev pub spawned : Making → Made (List BodyPlan) Plan → Made (List BodyPlan) Plan
+abbrev pub spawned : Making → WalkResult (List BodyPlan) Plan → WalkResult (List BodyPlan) Plan
 spawned m p = record { it = plan.spawn (suc (length p.state)) m.captured m.is_awaited; state = p.state ++ task_body m p.it ∷ [] }

@@ -6,11 +6,11 @@ use Rattle.jt_lowered.specs.Loops.{TurnPlan, turn_of}
 use Rattle.jt_lowered.specs.Nodes.{body_of}
 use Rattle.jt_scopes.specs.declared.scope.Scope.{Scope}
 use Rattle.jt_scopes.specs.Slots.{first}
-use Rattle.jt_bound.specs.Made.{Made, made, with}
+use Rattle.jt_bound.specs.Made.{WalkResult, made, with}
 use Rattle.jt_bound.specs.Making.{making_of, spawned}
 use Rattle.jt_bound.specs.declared.making.Making.{Making}
 
-pub record State : Type 0 where
+pub record WalkState : Type 0 where
   -- the scopes round the place, the innermost one first
   pub chain : List Scope
   -- the bodies of the tasks before it
@@ -18,23 +18,23 @@ pub record State : Type 0 where
   -- the scopes that are still to begin, in the order in which they do
   pub coming : List Scope
 
-abbrev pub standing : List Scope → List Scope → List BodyPlan → State
+abbrev pub standing : List Scope → List Scope → List BodyPlan → WalkState
 standing c l s = record { chain = c; bodies = s; coming = l }
 
-abbrev pub entered_by : State → List Scope → State
+abbrev pub entered_by : WalkState → List Scope → WalkState
 entered_by s [] = s
 entered_by s (r ∷ l) = standing (r ∷ s.chain) l s.bodies
 
 -- the next scope begins
-abbrev pub entered : State → State
+abbrev pub entered : WalkState → WalkState
 entered s = entered_by s s.coming
 
 -- the innermost scope ends
-abbrev pub left : State → State
+abbrev pub left : WalkState → WalkState
 left s = standing (drop 1 s.chain) s.coming s.bodies
 
 -- what is made in a scope that ends behind it
-abbrev pub within : {A : Type 0} → Made State A → Made State A
+abbrev pub within : {A : Type 0} → WalkResult WalkState A → WalkResult WalkState A
 within m = made m.it (left m.state)
 
 -- ---- of the scope that begins next; one with no names serves where none does
@@ -43,38 +43,38 @@ abbrev pub next_of : List Scope → Scope
 next_of [] = record { kind = kind.Function; at = 0; names = []; again = []; captures = [] }
 next_of (r ∷ l) = r
 
-abbrev pub next : State → Scope
+abbrev pub next : WalkState → Scope
 next s = next_of s.coming
 
 -- how many variables it has
-abbrev pub count : State → ℕ
+abbrev pub count : WalkState → ℕ
 count s = length (next s).names
 
 -- the slot of its first variable
-abbrev pub start : State → ℕ
+abbrev pub start : WalkState → ℕ
 start s = first (next s) s.chain
 
 -- what is known of a task whose body has it
-abbrev pub making : State → Making
+abbrev pub making : WalkState → Making
 making s = making_of (next s) s.chain
 
 -- ---- what is made in it
 
 -- a loop's body that was made in the scope that began at the state s
-abbrev pub turned : State → Made State Plan → Made State TurnPlan
+abbrev pub turned : WalkState → WalkResult WalkState Plan → WalkResult WalkState TurnPlan
 turned s m = with (turn_of (start s) (count s)) (within m)
 
 -- a task whose body was made
-abbrev pub forked_by : Made (List BodyPlan) Plan → State → Made State Plan
+abbrev pub forked_by : WalkResult (List BodyPlan) Plan → WalkState → WalkResult WalkState Plan
 forked_by m s = made m.it (standing s.chain s.coming m.state)
 
-abbrev pub forked : Making → Made State Plan → Made State Plan
+abbrev pub forked : Making → WalkResult WalkState Plan → WalkResult WalkState Plan
 forked m p = forked_by (spawned m (made p.it p.state.bodies)) p.state
 
 -- a task whose body was made in the scope that began at the state s
-abbrev pub tasked : State → Made State Plan → Made State Plan
+abbrev pub tasked : WalkState → WalkResult WalkState Plan → WalkResult WalkState Plan
 tasked s m = forked (making s) (within m)
 
 -- a function's body that was made in the scope that began at the state s
-abbrev pub bodied : State → Made State Plan → Made State BodyPlan
+abbrev pub bodied : WalkState → WalkResult WalkState Plan → WalkResult WalkState BodyPlan
 bodied s m = with (body_of (count s)) (within m)

@@ -13,13 +13,13 @@ use Rattle.jt_lowered.specs.Loops.{while_of, for_of}
 use Rattle.jt_lowered.specs.Chains.{chained, guarded}
 use Rattle.jt_bound.specs.Bound.{Numbers, piece_of}
 use Rattle.jt_lowered.specs.Lowered.{written, number_literal, least_literal, greatest_literal, nothing_literal, operated, updated, callee_of}
-use Rattle.jt_bound.specs.Made.{Made, made, with, both, three, four}
+use Rattle.jt_bound.specs.Made.{WalkResult, made, with, both, three, four}
 use Rattle.jt_bound.specs.Slots.{target, interpolated, slot_of}
-use Rattle.jt_bound.specs.States.{State, entered, within, turned, tasked}
+use Rattle.jt_bound.specs.States.{WalkState, entered, within, turned, tasked}
 
 -- x: what names go by; s: where the walk stands
 abbrev mutual
-  pub walked : Numbers → State → Tree → Made State Plan
+  pub walked : Numbers → WalkState → Tree → WalkResult WalkState Plan
   walked x s (tree.text t) = made nothing_literal s
   walked x s (tree.number n) = made (number_literal n) s
   walked x s (tree.truth b) = made (plan.literal (literal.Flag b)) s
@@ -54,43 +54,43 @@ abbrev mutual
   walked x s (tree.sync e) = with plan.sync (within (walked x (entered s) e))
   walked x s (tree.threads at o i a b ss) = made nothing_literal s
 
-  pub walked_all : Numbers → State → Trees → Made State Plans
+  pub walked_all : Numbers → WalkState → Trees → WalkResult WalkState Plans
   walked_all x s tree.no_trees = made plan.no_plans s
   walked_all x s (tree.tree e es) = both plan.plan (walked x s e) (λ s. walked_all x s es)
 
-  pub walked_pieces : Numbers → State → Trees → Made State Pieces
+  pub walked_pieces : Numbers → WalkState → Trees → WalkResult WalkState Pieces
   walked_pieces x s tree.no_trees = made plan.no_pieces s
   walked_pieces x s (tree.tree e es) = both (λ p ps. piece_before (piece_of e p) ps) (walked x s e) (λ s. walked_pieces x s es)
 
-  pub walked_terms : Numbers → State → Terms → Made State (List (BinaryOperator × Plan))
+  pub walked_terms : Numbers → WalkState → Terms → WalkResult WalkState (List (BinaryOperator × Plan))
   walked_terms x s tree.no_terms = made [] s
   walked_terms x s (tree.term o e es) = both (λ p ps. (o, p) ∷ ps) (walked x s e) (λ s. walked_terms x s es)
 
-  pub walked_arms : Numbers → State → Arms → Made State Choices
+  pub walked_arms : Numbers → WalkState → Arms → WalkResult WalkState Choices
   walked_arms x s tree.no_arms = made plan.no_choices s
   walked_arms x s (tree.otherwise ss) = made plan.no_choices s
   walked_arms x s (tree.arm e ss arms) = three (λ t ps arms. plan.choice t (plan.block ps) arms) (walked x s e) (λ s. walked_steps x s ss) (λ s. walked_arms x s arms)
 
   -- s: where the walk stands at the end of the arms
-  pub walked_otherwise : Numbers → State → Arms → Made State Plan
+  pub walked_otherwise : Numbers → WalkState → Arms → WalkResult WalkState Plan
   walked_otherwise x s tree.no_arms = made nothing_literal s
   walked_otherwise x s (tree.otherwise ss) = with plan.block (walked_steps x s ss)
   walked_otherwise x s (tree.arm e ss arms) = walked_otherwise x s arms
 
-  pub walked_leap : Numbers → State → Leap → Made State Plan
+  pub walked_leap : Numbers → WalkState → Leap → WalkResult WalkState Plan
   walked_leap x s (tree.return_nothing at) = made (plan.return nothing_literal) s
   walked_leap x s (tree.return_value at e) = with plan.return (walked x s e)
   walked_leap x s (tree.break_loop at) = made plan.break s
   walked_leap x s (tree.continue_loop at) = made plan.continue s
 
   -- a guard is its operands with the jump as the last one
-  pub walked_step : Numbers → State → Step → Made State Plan
+  pub walked_step : Numbers → WalkState → Step → WalkResult WalkState Plan
   walked_step x s (tree.assign i o e) = with (λ p. plan.assign (slot_of s.chain i.name) (updated o (written (target x.constants s.chain i.name)) p)) (walked x s e)
   walked_step x s (tree.store i e) = made nothing_literal s
   walked_step x s (tree.jump l) = walked_leap x s l
   walked_step x s (tree.guard k e es l) = three (guarded k) (walked x s e) (λ s. walked_terms x s es) (λ s. walked_leap x s l)
   walked_step x s (tree.value e) = walked x s e
 
-  pub walked_steps : Numbers → State → Steps → Made State Plans
+  pub walked_steps : Numbers → WalkState → Steps → WalkResult WalkState Plans
   walked_steps x s tree.no_steps = made plan.no_plans s
   walked_steps x s (tree.step t ts) = both plan.plan (walked_step x s t) (λ s. walked_steps x s ts)

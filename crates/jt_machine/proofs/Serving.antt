@@ -17,7 +17,7 @@ use Rattle.jt_laws.specs.Objects.{reply_after}
 use Rattle.jt_laws.specs.Seats.{may_work}
 use Rattle.jt_histories.specs.Jobs.{last_entry}
 use Rattle.jt_histories.proofs.Orders.{shard_small}
-use Rattle.jt_shard.specs.Calls.{Enters, MeetsLimit, Parks}
+use Rattle.jt_shard.specs.Calls.{Enters, IsAtStampLimit, Parks}
 use Rattle.jt_shard.specs.Shards.{ShardState, object_for, reply_now, next_entry, next_stamp, MustWait, IsSettled, HasRoom}
 use Rattle.jt_meaning.specs.declared.start.Start.{Start}
 use Rattle.jt_meaning.specs.Run.{Run}
@@ -192,7 +192,7 @@ module _ (run : Run) (seeds : Seeds) (shards : List (ShardState Task)) (ready : 
           still = set_twice shards k s1 s2 ∙ ap (λ t. set shards k t) (shard2 ∙ same)
 
           -- the limit on stamps
-          limit_ends : (given : Op) → MeetsLimit told_of s job1 o given s2 job2 → Ended run seeds (set (set shards k s1) k s2) end.EventLimit
+          limit_ends : (given : Op) → IsAtStampLimit told_of s job1 o given s2 job2 → Ended run seeds (set (set shards k s1) k s2) end.EventLimit
           limit_ends given m = subst (λ l. Ended run seeds l end.EventLimit) (sym still) (record {
             jobs = map told_of ((job1 ∷ ready) ++ waiting_in (set shards k s1));
             holds = runs_now.holds;
@@ -214,13 +214,13 @@ module _ (run : Run) (seeds : Seeds) (shards : List (ShardState Task)) (ready : 
               log_here : get_or (logs_of (set shards k s1)) (shard_of_object (object_for told_of job1 o)) [] ≡ s1.log
               log_here = ap (λ n. get_or (logs_of (set shards k s1)) n []) here_now ∙ log_at (set shards k s1) k s1 at1
 
-              beyond : MeetsLimit told_of s job1 o given s2 job2 → run.limits.events < max (last_note job1.log) (last_entry (get_or (logs_of (set shards k s1)) (shard_of_object (object_for told_of job1 o)) [])) + 1
+              beyond : IsAtStampLimit told_of s job1 o given s2 job2 → run.limits.events < max (last_note job1.log) (last_entry (get_or (logs_of (set shards k s1)) (shard_of_object (object_for told_of job1 o)) [])) + 1
               beyond m =
                   subst (λ l. run.limits.events < max (last_note job1.log) (last_entry l) + 1) (sym log_here)
                   (subst (λ n. n < next_stamp told_of s1.log job1) (runs_now.each_shard k s1 at1).events
                   (subst (λ (t : ShardState Task). t.events < next_stamp told_of t.log job1) same m.beyond))
 
-          pub limit_serves : (given : Op) → MeetsLimit told_of s job1 o given s2 job2 → Ended run seeds (set (set shards k s1) k s2) end.EventLimit × Grows run seeds shards (set (set shards k s1) k s2)
+          pub limit_serves : (given : Op) → IsAtStampLimit told_of s job1 o given s2 job2 → Ended run seeds (set (set shards k s1) k s2) end.EventLimit × Grows run seeds shards (set (set shards k s1) k s2)
           limit_serves given m = (limit_ends given m, subst (Grows run seeds shards) (sym still) grows_now)
 
           -- the job waits

@@ -19,32 +19,32 @@ use Rattle.jt_program.specs.Plan.{Plan, Plans, Operands, Comparisons, Choices, P
 use Rattle.jt_program.specs.Plan as plan
 use Rattle.jt_meaning.specs.declared.start.Start.{Start}
 use Rattle.jt_meaning.specs.Run.{Run}
-use Rattle.jt_meaning.specs.State.{State, Out, Gave, Returned, Broke, Continued, Faulted, Asks, Unfit, Step, bind, ask, turn, enter, renew, renew_with}
+use Rattle.jt_meaning.specs.State.{State, Out, Gave, Returned, Broke, Continued, Faulted, Asks, Unfit, TaskPart, bind, ask, turn, enter, renew, renew_with}
 use Rattle.jt_meaning.specs.Values.{Valued, value_of, operated, unary_of, applied, compared_by, shown, shown_with, text_of, error_of}
 
 -- a value, or a fault
-abbrev pub gives : Valued → Step
+abbrev pub gives : Valued → TaskPart
 gives (Ok v) s = Gave v s
 gives (Err f) s = Faulted f s
 
 -- what is read where this stands
-abbrev pub known : Option (Option Value) → Step
+abbrev pub known : Option (Option Value) → TaskPart
 known (Some (Some v)) s = Gave v s
 known (Some None) s = Faulted Undefined s
 known None s = Faulted Undefined s
 
-abbrev pub either : Bool → Step → Step → Step
+abbrev pub either : Bool → TaskPart → TaskPart → TaskPart
 either true a b s = a s
 either false a b s = b s
 
-abbrev pub assigned : ℕ → Value → Step
+abbrev pub assigned : ℕ → Value → TaskPart
 assigned x v s = Gave v (record s { variables = slice_set s.variables x (Some v) })
 
-abbrev pub defined : ℕ → Value → Step
+abbrev pub defined : ℕ → Value → TaskPart
 defined k v s = Gave v (record s { constants = slice_set s.constants k (Some v) })
 
 -- the one or the other by a truth value
-abbrev pub test : Value → Step → Step → Step
+abbrev pub test : Value → TaskPart → TaskPart → TaskPart
 test (Flag true) a b s = a s
 test (Flag false) a b s = b s
 test (Int n) a b s = Faulted Method s
@@ -53,18 +53,18 @@ test (Task path) a b s = Faulted Method s
 test (Object kind name) a b s = Faulted Method s
 
 -- the next operand of `&&`, or of `||`, unless this one decides
-abbrev pub proceed : Connective → Value → Step → Step
+abbrev pub proceed : Connective → Value → TaskPart → TaskPart
 proceed connective.And v k = test v k (Gave (Flag false))
 proceed connective.Or v k = test v (Gave (Flag true)) k
 
 -- the next comparison of a chain, where this one holds
-abbrev pub holds : Option Bool → Step → Step
+abbrev pub holds : Option Bool → TaskPart → TaskPart
 holds (Some true) k s = k s
 holds (Some false) k s = Gave (Flag false) s
 holds None k s = Faulted Method s
 
 -- what follows the body of a loop
-abbrev pub looped : Step → Out → Out
+abbrev pub looped : TaskPart → Out → Out
 looped again (Gave v s) = again s
 looped again (Continued s) = again s
 looped again (Broke s) = Gave Nothing s
@@ -87,7 +87,7 @@ left variables n Unfit = Unfit
 abbrev pub variables_of : BodyPlan → List Value → List (Option Value)
 variables_of b vs = map Some vs ++ replicate (b.variables - length vs) None
 
-abbrev pub print_text : Option (List ℕ) → Step
+abbrev pub print_text : Option (List ℕ) → TaskPart
 print_text (Some text) s = ask (Print text) None s
 print_text None s = Faulted Method s
 
@@ -122,13 +122,13 @@ await true path paths = paths ++ path ∷ []
 await false path paths = paths
 
 -- makes the task of this path, unless what it takes has no value
-abbrev pub fork_with : List ℕ → Bool → Option Start → Step
+abbrev pub fork_with : List ℕ → Bool → Option Start → TaskPart
 fork_with path awaits None s = Faulted Undefined s
 fork_with path awaits (Some start) s =
     ask (Spawn path start.how) (Some start) (record s { spawned = s.spawned + 1; awaited = await awaits path s.awaited })
 
 -- the task of the next number, unless the path is full
-abbrev pub fork : Option BodyPlan → ℕ → List ℕ → Bool → Step
+abbrev pub fork : Option BodyPlan → ℕ → List ℕ → Bool → TaskPart
 fork None body slots awaits s = Faulted Method s
 fork (Some b) body slots awaits s =
     either (nat_lt (length s.path) most_indexes)
@@ -141,7 +141,7 @@ first_fault None f = Some f
 first_fault (Some g) f = Some g
 
 -- a wait for a task has ended: its fault is kept, and the waits go on
-abbrev pub noticed : Option Fault → (Option Fault → Step) → Out → Out
+abbrev pub noticed : Option Fault → (Option Fault → TaskPart) → Out → Out
 noticed first k (Gave v s) = k first s
 noticed first k (Faulted f s) = k (first_fault first f) s
 noticed first k (Returned v s) = Returned v s
@@ -151,12 +151,12 @@ noticed first k (Asks op start s) = Asks op start s
 noticed first k Unfit = Unfit
 
 -- waits for each of these tasks in turn
-abbrev pub wait_all : List (List ℕ) → Option Fault → (Option Fault → Step) → Step
+abbrev pub wait_all : List (List ℕ) → Option Fault → (Option Fault → TaskPart) → TaskPart
 wait_all [] first k s = k first s
 wait_all (path ∷ paths) first k s = noticed first (λ f. wait_all paths f k) (ask (Wait path) None s)
 
 -- fails where a task has failed
-abbrev pub unless_failed : Step → Option Fault → Step
+abbrev pub unless_failed : TaskPart → Option Fault → TaskPart
 unless_failed k None s = k s
 unless_failed k (Some f) s = Faulted f s
 
@@ -182,39 +182,39 @@ pub data Later : Type 0 where
   range : (first count : ℕ) (body : Plan) (i last : ℤ) → Later
 
 -- the bounds of a loop
-abbrev pub bounds : (ℤ → ℤ → Step) → Value → Value → Step
+abbrev pub bounds : (ℤ → ℤ → TaskPart) → Value → Value → TaskPart
 bounds k (Int a) (Int b) s = k a b s
 bounds k v w s = Faulted Method s
 
 -- the turns from i on of a loop whose body does this
-abbrev pub turns_from : (Later → Step) → ℕ → ℕ → Plan → Step → ℤ → ℤ → Step
+abbrev pub turns_from : (Later → TaskPart) → ℕ → ℕ → Plan → TaskPart → ℤ → ℤ → TaskPart
 turns_from lower first count b body i last =
     either (int_le i last)
     (turn (λ s. looped (lower (range first count b (i +ℤ pos 1) last)) (body (renew_with first count (Int i) s))))
     (Gave Nothing)
 
 -- a call of a function of the script
-abbrev pub call : (Later → Step) → Option BodyPlan → List Value → Step
+abbrev pub call : (Later → TaskPart) → Option BodyPlan → List Value → TaskPart
 call lower None vs s = Faulted Method s
 call lower (Some b) vs s =
     enter (λ s2. left s.variables s.open_calls (lower (whole b.code) (record s2 { variables = variables_of b vs }))) s
 
 -- a function of the language: an operation on a task, or a value
-abbrev pub call_built_in : BuiltIn → List Value → Step
+abbrev pub call_built_in : BuiltIn → List Value → TaskPart
 call_built_in built_in.Fetch (Task path ∷ []) s = ask (Fetch path) None s
 call_built_in built_in.Wait (Task path ∷ []) s = ask (Wait path) None s
 call_built_in built_in.Yield [] s = ask Yield None s
 call_built_in f vs s = gives (applied f vs) s
 
 module _ (program : ProgramPlan) where
-  abbrev pub call_of : (Later → Step) → Callee → List Value → Step
+  abbrev pub call_of : (Later → TaskPart) → Callee → List Value → TaskPart
   call_of lower (callee.Function f) vs = call lower (slice_get program.functions f) vs
   call_of lower (callee.BuiltIn f) vs = call_built_in f vs
 
   abbrev mutual
     -- what a tree does, where calls and further turns are done by lower; operands, arguments and
     -- items from left to right
-    pub run : (Later → Step) → Plan → Step
+    pub run : (Later → TaskPart) → Plan → TaskPart
     run lower (plan.literal l) s = Gave (value_of l) s
     run lower (plan.variable x) s = known (slice_get s.variables x) s
     run lower (plan.constant k) s = known (slice_get s.constants k) s
@@ -242,55 +242,55 @@ module _ (program : ProgramPlan) where
     run lower plan.continue s = Continued s
 
     -- v: the value so far
-    pub run_operands : (Later → Step) → Value → Operands → Step
+    pub run_operands : (Later → TaskPart) → Value → Operands → TaskPart
     run_operands lower v plan.no_operands s = Gave v s
     run_operands lower v (plan.operand o e es) s =
         bind (run lower e s) (λ w s. bind (gives (operated o v w) s) (λ x. run_operands lower x es))
 
     -- v: the operand before
-    pub run_comparisons : (Later → Step) → Value → Comparisons → Step
+    pub run_comparisons : (Later → TaskPart) → Value → Comparisons → TaskPart
     run_comparisons lower v plan.no_comparisons s = Gave (Flag true) s
     run_comparisons lower v (plan.compared o e es) s =
         bind (run lower e s) (λ w. holds (compared_by o v w) (run_comparisons lower w es))
 
     -- v: the last operand
-    pub run_connection : (Later → Step) → Connective → Value → Plans → Step
+    pub run_connection : (Later → TaskPart) → Connective → Value → Plans → TaskPart
     run_connection lower c v plan.no_plans s = Gave v s
     run_connection lower c v (plan.plan e es) s =
         proceed c v (λ s. bind (run lower e s) (λ w. run_connection lower c w es)) s
 
-    pub run_choices : (Later → Step) → Choices → Step → Step
+    pub run_choices : (Later → TaskPart) → Choices → TaskPart → TaskPart
     run_choices lower plan.no_choices k s = k s
     run_choices lower (plan.choice c e cs) k s =
         bind (run lower c s) (λ v. test v (run lower e) (run_choices lower cs k))
 
     -- v: the value of the one before
-    pub run_all : (Later → Step) → Value → Plans → Step
+    pub run_all : (Later → TaskPart) → Value → Plans → TaskPart
     run_all lower v plan.no_plans s = Gave v s
     run_all lower v (plan.plan e es) s = bind (run lower e s) (λ w. run_all lower w es)
 
     -- vs: the arguments so far
-    pub run_arguments : (Later → Step) → Callee → List Value → Plans → Step
+    pub run_arguments : (Later → TaskPart) → Callee → List Value → Plans → TaskPart
     run_arguments lower f vs plan.no_plans s = call_of lower f vs s
     run_arguments lower f vs (plan.plan e es) s = bind (run lower e s) (λ v. run_arguments lower f (vs ++ v ∷ []) es)
 
     -- text: that of the items so far; nothing where one of them has none
-    pub run_pieces : (Later → Step) → Option (List ℕ) → Pieces → Step
+    pub run_pieces : (Later → TaskPart) → Option (List ℕ) → Pieces → TaskPart
     run_pieces lower text plan.no_pieces s = print_text text s
     run_pieces lower text (plan.value_piece e ps) s = bind (run lower e s) (λ v. run_pieces lower (shown_with text (shown v)) ps)
     run_pieces lower text (plan.text_piece t ps) s = run_pieces lower (shown_with text (text_of t)) ps s
 
-  abbrev pub later : (Later → Step) → Later → Step
+  abbrev pub later : (Later → TaskPart) → Later → TaskPart
   later lower (whole e) = run lower e
   later lower (range first count e i last) = turns_from lower first count e (run lower e) i last
 
   -- what a tree does in fewer than n turns
-  unfoldable pub meaning : ℕ → Later → Step
+  unfoldable pub meaning : ℕ → Later → TaskPart
   meaning zero l s = Unfit
   meaning (suc n) l s = later (meaning n) l s
 
   -- what a tree does
-  unfoldable pub go : Later → Step
+  unfoldable pub go : Later → TaskPart
   go l s = meaning (suc s.turns) l s
 
 -- a task ends with a value, or fails
@@ -303,7 +303,7 @@ ended (Faulted f s) = ask (Fail f) None s
 ended (Asks op start s) = Asks op start s
 ended Unfit = Unfit
 
-abbrev pub task_of : ProgramPlan → Option BodyPlan → List Value → Step
+abbrev pub task_of : ProgramPlan → Option BodyPlan → List Value → TaskPart
 task_of program None captured s = Unfit
 task_of program (Some b) captured s =
     bind (ask Begin None (record s { variables = variables_of b captured })) (λ v s. ended (go program (whole b.code) s))

@@ -53,11 +53,11 @@ turns_of (Asks op start s) = s.turns
 turns_of Unfit = 0
 
 -- a part of a task; by value, so a choice of two parts is a choice of two functions
-abbrev pub Step : Type 0
-Step = State → Out
+abbrev pub TaskPart : Type 0
+TaskPart = State → Out
 
 -- goes on with k where a value is given
-abbrev pub bind : Out → (Value → Step) → Out
+abbrev pub bind : Out → (Value → TaskPart) → Out
 bind (Gave value s) k = k value s
 bind (Returned value s) k = Returned value s
 bind (Broke s) k = Broke s
@@ -87,7 +87,7 @@ given (Wait path) reply.Failed = fault (TaskFailed path)
 given Yield reply.Ok = value Nothing
 given op r = unfit
 
-abbrev pub answered : Given → Step
+abbrev pub answered : Given → TaskPart
 answered (value v) s = Gave v s
 answered (fault f) s = Faulted f s
 answered unfit s = Unfit
@@ -97,27 +97,27 @@ ask_with op start s [] = Asks op start s
 ask_with op start s (r ∷ rs) = answered (given op r) (record s { replies = rs })
 
 -- an operation takes the next reply, or waits for it
-abbrev pub ask : Op → Option Start → Step
+abbrev pub ask : Op → Option Start → TaskPart
 ask op start s = ask_with op start s s.replies
 
 -- ---- turns
 
 -- one turn, where one is left
-abbrev pub turn_with : ℕ → Step → Step
+abbrev pub turn_with : ℕ → TaskPart → TaskPart
 turn_with zero k s = Faulted TurnLimit s
 turn_with (suc t) k s = k (record s { turns = t })
 
-abbrev pub turn : Step → Step
+abbrev pub turn : TaskPart → TaskPart
 turn k s = turn_with s.turns k s
 
 -- one turn that opens a call. Where no turn is left and the calls are too many, the turns count, and
 -- a call that is refused takes none.
-abbrev pub enter_with : ℕ → Bool → Step → Step
+abbrev pub enter_with : ℕ → Bool → TaskPart → TaskPart
 enter_with zero free k s = Faulted TurnLimit s
 enter_with (suc t) false k s = Faulted StackLimit s
 enter_with (suc t) true k s = k (record s { turns = t; open_calls = s.open_calls + 1 })
 
-abbrev pub enter : Step → Step
+abbrev pub enter : TaskPart → TaskPart
 enter k s = enter_with s.turns (nat_lt s.open_calls most_calls) k s
 
 -- ---- variables

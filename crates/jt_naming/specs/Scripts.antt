@@ -41,19 +41,19 @@ broken_rules ts = outline_breaks (context_of ts) (script_scope (outline_of ts).p
 abbrev pub BreaksNone : List TopTree → Type 0
 BreaksNone ts = broken_rules ts ≡ []
 
-abbrev pub Among : Broken → List Broken → Type 0
-Among b [] = ⊥
-Among b (x ∷ xs) = (b ≡ x) ⊎ Among b xs
+abbrev pub IsOneOf : Broken → List Broken → Type 0
+IsOneOf b [] = ⊥
+IsOneOf b (x ∷ xs) = (b ≡ x) ⊎ IsOneOf b xs
 
 abbrev pub NoneBelow : Broken → List Broken → Type 0
 NoneBelow b [] = Unit {0}
 NoneBelow b (x ∷ xs) = (below x b ≡ false) × NoneBelow b xs
 
 -- it is among them, and none comes before it
-pub record IsLeast (b : Broken) (bs : List Broken) : Type 0 where
-  pub among : Among b bs
+pub record IsForemost (b : Broken) (bs : List Broken) : Type 0 where
+  pub among : IsOneOf b bs
   pub least : NoneBelow b bs
 
 -- the broken rule that counts: the one at the smallest place, and there that of the lowest rank
 abbrev pub Breaks : List TopTree → Broken → Type 0
-Breaks ts b = IsLeast b (broken_rules ts)
+Breaks ts b = IsForemost b (broken_rules ts)

@@ -23,7 +23,7 @@ use Rattle.jt_laws.proofs.Paths.{same_of}
 use Rattle.jt_conditions.specs.declared.completion.Completion.{Completion}
 use Rattle.jt_conditions.specs.Completions.{makes_task, stage_of, completion_left_by}
 use Rattle.jt_conditions.specs.CompletionSteps.{is_completion_op}
-use Rattle.jt_objects.specs.States.{State, OfPrinter, OfTask, Unmade, makes_object, are_of, named_left_by, left_by}
+use Rattle.jt_objects.specs.States.{ObjectState, OfPrinter, OfTask, Unmade, makes_object, are_of, named_left_by, left_by}
 use Rattle.jt_objects.proofs.Left.{same_object_equal, own_more, left_if, was, never, not_named, unmade, refused}
 
 -- the printer
@@ -31,10 +31,10 @@ prints : (op : Op) (task : List ℕ) → object_of task op ≡ Printer → (text
 prints (Print text) task n = (text, refl)
 prints op task n = absurd (cc)
 
-pub printer_refuses : (task : List ℕ) (op : Op) → ((text : List ℕ) → op ≡ Print text → ⊥) → Asked State (left_by (object_of task op)) task op OfPrinter NotYet OfPrinter
+pub printer_refuses : (task : List ℕ) (op : Op) → ((text : List ℕ) → op ≡ Print text → ⊥) → Asked ObjectState (left_by (object_of task op)) task op OfPrinter NotYet OfPrinter
 printer_refuses task op other = at (object_of task op) refl
   where
-    at : (o : Object) → object_of task op ≡ o → Asked State (left_by o) task op OfPrinter NotYet OfPrinter
+    at : (o : Object) → object_of task op ≡ o → Asked ObjectState (left_by o) task op OfPrinter NotYet OfPrinter
     at Printer n = absurd (let p = prints op task n in other p.0 p.1)
     at (Task path) n = never (Task path) task op OfPrinter NotYet OfPrinter (λ past h. absurd (cc)) (λ h. refl)
     at (Named name) n =
@@ -59,7 +59,7 @@ module _ (task : List ℕ) (op : Op) (before : Completion) (answer : Ask) (after
         | Named name ↦ λ q. (others (own_of_task op task (λ path n. absurd (let z : Named name ≡ Task path = sym q ∙ n in cc)))).1
       ] refl
 
-  at_task : (o : Object) → object_of task op ≡ o → Asked State (left_by o) task op (OfTask (Some before)) answer (OfTask (Some after))
+  at_task : (o : Object) → object_of task op ≡ o → Asked ObjectState (left_by o) task op (OfTask (Some before)) answer (OfTask (Some after))
   at_task Printer n =
       never Printer task op (OfTask (Some before)) answer (OfTask (Some after)) (λ past h. absurd (cc)) (λ h. ap (λ c. OfTask (Some c)) (task_stays h))
   at_task (Named name) n =
@@ -76,13 +76,13 @@ module _ (task : List ℕ) (op : Op) (before : Completion) (answer : Ask) (after
         stays = λ h. ap (λ c. OfTask (Some c)) (task_stays h);
       }
 
-  pub task_asked : Asked State (left_by (object_of task op)) task op (OfTask (Some before)) answer (OfTask (Some after))
+  pub task_asked : Asked ObjectState (left_by (object_of task op)) task op (OfTask (Some before)) answer (OfTask (Some after))
   task_asked = at_task (object_of task op) refl
 
-pub task_allowed : (task : List ℕ) (op : Op) (c : Completion) (answer : Bool) → ((path task : List ℕ) → object_of task op ≡ Task path → Allowed Completion (completion_left_by path) task op c answer) → Allowed State (left_by (object_of task op)) task op (OfTask (Some c)) answer
+pub task_allowed : (task : List ℕ) (op : Op) (c : Completion) (answer : Bool) → ((path task : List ℕ) → object_of task op ≡ Task path → Allowed Completion (completion_left_by path) task op c answer) → Allowed ObjectState (left_by (object_of task op)) task op (OfTask (Some c)) answer
 task_allowed task op c answer law = at (object_of task op) refl
   where
-    at : (o : Object) → object_of task op ≡ o → Allowed State (left_by o) task op (OfTask (Some c)) answer
+    at : (o : Object) → object_of task op ≡ o → Allowed ObjectState (left_by o) task op (OfTask (Some c)) answer
     at Printer n past l h = absurd (let w = (was Printer past (OfTask (Some c)) h).1 in cc)
     at (Named name) n past l h =
         absurd (not_named past (OfTask (Some c)) refl (λ q. absurd (cc)) (was (Named name) past (OfTask (Some c)) h).1)
@@ -131,10 +131,10 @@ empty_past path past l h =
     not_spawned path past l w.0 (let q = w.1 in cc)
 
 -- a task that isn't there allows nothing but its Spawn
-pub not_there : (task : List ℕ) (op : Op) → ((q : List ℕ) (how : How) → op ≡ Spawn q how → ⊥) → Asked State (left_by (object_of task op)) task op (OfTask None) NotYet (OfTask None)
+pub not_there : (task : List ℕ) (op : Op) → ((q : List ℕ) (how : How) → op ≡ Spawn q how → ⊥) → Asked ObjectState (left_by (object_of task op)) task op (OfTask None) NotYet (OfTask None)
 not_there task op other = at (object_of task op) refl
   where
-    at : (o : Object) → object_of task op ≡ o → Asked State (left_by o) task op (OfTask None) NotYet (OfTask None)
+    at : (o : Object) → object_of task op ≡ o → Asked ObjectState (left_by o) task op (OfTask None) NotYet (OfTask None)
     at Printer n = never Printer task op (OfTask None) NotYet (OfTask None) (λ past h. absurd (cc)) (λ h. refl)
     at (Named name) n =
         never (Named name) task op (OfTask None) NotYet (OfTask None) (λ past. not_named past (OfTask None) refl (λ q. absurd (cc))) (λ h. refl)
@@ -154,15 +154,15 @@ spawn_done task op q how path is here past l h =
     let u = empty_past path past l h in
     ap (λ p. reply_after p task op) u.0 ∙ ap (λ x. reply_after [] task x) is ∙ ap (λ b. ok_if (not b)) (ap is_main here ∙ u.1)
 
-pub can_spawn : (task : List ℕ) (op : Op) (q : List ℕ) (how : How) → op ≡ Spawn q how → Allowed State (left_by (object_of task op)) task op (OfTask None) true
+pub can_spawn : (task : List ℕ) (op : Op) (q : List ℕ) (how : How) → op ≡ Spawn q how → Allowed ObjectState (left_by (object_of task op)) task op (OfTask None) true
 can_spawn task op q how is past l h =
     let here : object_of task op ≡ Task q = ap (object_of task) is in
     sym (ap is_some (spawn_done task op q how q is refl past l (subst (λ o. left_by o past ≡ Some (OfTask None)) here h)))
 
-pub spawned : (task : List ℕ) (op : Op) (q : List ℕ) (how : How) (c : Completion) → op ≡ Spawn q how → ((path : List ℕ) (how : How) → MadeBy Completion (completion_left_by path) (Spawn path how) c) → Asked State (left_by (object_of task op)) task op (OfTask None) (Done reply.Ok) (OfTask (Some c))
+pub spawned : (task : List ℕ) (op : Op) (q : List ℕ) (how : How) (c : Completion) → op ≡ Spawn q how → ((path : List ℕ) (how : How) → MadeBy Completion (completion_left_by path) (Spawn path how) c) → Asked ObjectState (left_by (object_of task op)) task op (OfTask None) (Done reply.Ok) (OfTask (Some c))
 spawned task op q how c is m = at (object_of task op) refl
   where
-    at : (o : Object) → object_of task op ≡ o → Asked State (left_by o) task op (OfTask None) (Done reply.Ok) (OfTask (Some c))
+    at : (o : Object) → object_of task op ≡ o → Asked ObjectState (left_by o) task op (OfTask None) (Done reply.Ok) (OfTask (Some c))
     at Printer n = never Printer task op (OfTask None) (Done reply.Ok) (OfTask (Some c)) (λ past h. absurd (cc)) (λ h. absurd (cc))
     at (Named name) n =
         never (Named name) task op (OfTask None) (Done reply.Ok) (OfTask (Some c)) (λ past. not_named past (OfTask None) refl (λ q. absurd (cc))) (λ h. absurd (cc))
@@ -199,19 +199,19 @@ first_some Yield task name n = absurd (cc)
 first_some (Print text) task name n = absurd (cc)
 first_some op task name n = refl
 
-pub unmade_allowed : (task : List ℕ) (op : Op) (answer : Bool) → answer ≡ makes_object op → Allowed State (left_by (object_of task op)) task op Unmade answer
+pub unmade_allowed : (task : List ℕ) (op : Op) (answer : Bool) → answer ≡ makes_object op → Allowed ObjectState (left_by (object_of task op)) task op Unmade answer
 unmade_allowed task op answer is = at (object_of task op) refl
   where
-    at : (o : Object) → object_of task op ≡ o → Allowed State (left_by o) task op Unmade answer
+    at : (o : Object) → object_of task op ≡ o → Allowed ObjectState (left_by o) task op Unmade answer
     at Printer n past l h = absurd (let w = (was Printer past Unmade h).1 in cc)
     at (Task path) n past l h = absurd (let w = (was (Task path) past Unmade h).1 in cc)
     at (Named name) n past l h =
         is ∙ sym (first_some op task name n) ∙ ap (λ p. is_some (reply_after p task op)) (sym (unmade past (was (Named name) past Unmade h).1))
 
-pub makes : (task : List ℕ) (op : Op) (new : State) → makes_object op ≡ true → MadeBy State named_left_by op new → Asked State (left_by (object_of task op)) task op Unmade (Done reply.Ok) new
+pub makes : (task : List ℕ) (op : Op) (new : ObjectState) → makes_object op ≡ true → MadeBy ObjectState named_left_by op new → Asked ObjectState (left_by (object_of task op)) task op Unmade (Done reply.Ok) new
 makes task op new m made = at (object_of task op) refl
   where
-    at : (o : Object) → object_of task op ≡ o → Asked State (left_by o) task op Unmade (Done reply.Ok) new
+    at : (o : Object) → object_of task op ≡ o → Asked ObjectState (left_by o) task op Unmade (Done reply.Ok) new
     at Printer n = never Printer task op Unmade (Done reply.Ok) new (λ past h. absurd (cc)) (λ h. absurd (cc))
     at (Task path) n = never (Task path) task op Unmade (Done reply.Ok) new (λ past h. absurd (cc)) (λ h. absurd (cc))
     at (Named name) n = record {
@@ -224,9 +224,9 @@ makes task op new m made = at (object_of task op) refl
       stays = λ h. absurd (cc);
     }
 
-pub not_made : (task : List ℕ) (op : Op) → makes_object op ≡ false → Asked State (left_by (object_of task op)) task op Unmade NotYet Unmade
+pub not_made : (task : List ℕ) (op : Op) → makes_object op ≡ false → Asked ObjectState (left_by (object_of task op)) task op Unmade NotYet Unmade
 not_made task op m =
-    refused State (left_by (object_of task op)) task op Unmade false refl (unmade_allowed task op false (sym m))
+    refused ObjectState (left_by (object_of task op)) task op Unmade false refl (unmade_allowed task op false (sym m))
 
 -- a task other than main without entries
 pub none_first : (path : List ℕ) → nat_eq (length path) 0 ≡ false → completion_left_by path [] ≡ None

@@ -12,9 +12,9 @@ use Rattle.jt_conditions.specs.Events.{EventState, event_left_by}
 use Rattle.jt_conditions.specs.Conditions.{Condition, condition_left_by}
 use Rattle.jt_conditions.specs.Locks.{Holder, lock_left_by}
 use Rattle.jt_conditions.specs.Semaphores.{Semaphore, semaphore_left_by}
-use Rattle.jt_objects.specs.States.{State, OfPrinter, OfTask, Unmade, OfChannel, OfAtomic, OfEvent, OfCondition, OfLock, OfSemaphore, made_by}
+use Rattle.jt_objects.specs.States.{ObjectState, OfPrinter, OfTask, Unmade, OfChannel, OfAtomic, OfEvent, OfCondition, OfLock, OfSemaphore, made_by}
 
-abbrev pub kind_of : State → Option Kind
+abbrev pub kind_of : ObjectState → Option Kind
 kind_of OfPrinter = None
 kind_of (OfTask completion) = None
 kind_of Unmade = None
@@ -34,11 +34,11 @@ kind_by (NewLock name) = Some kind.Lock
 kind_by (NewSemaphore name count) = Some kind.Semaphore
 kind_by op = None
 
-mapped : {A : Type 0} (o : Option A) (f : A → State) (s : State) → option_map f o ≡ Some s → (a : A) × (o ≡ Some a) × (f a ≡ s)
+mapped : {A : Type 0} (o : Option A) (f : A → ObjectState) (s : ObjectState) → option_map f o ≡ Some s → (a : A) × (o ≡ Some a) × (f a ≡ s)
 mapped None f s h = absurd (cc)
 mapped (Some a) f s h = (a, refl, cc)
 
-kind_made : (op : Op) (own : List Entry) (s : State) → made_by op own ≡ Some s → kind_of s ≡ kind_by op
+kind_made : (op : Op) (own : List Entry) (s : ObjectState) → made_by op own ≡ Some s → kind_of s ≡ kind_by op
 kind_made (NewChannel name c) own s h = sym (ap kind_of (mapped (channel_left_by own) OfChannel s h).2)
 kind_made (NewAtomic name v) own s h = sym (ap kind_of (mapped (atomic_left_by own) OfAtomic s h).2)
 kind_made (NewEvent name auto) own s h = sym (ap kind_of (mapped (event_left_by own) OfEvent s h).2)
@@ -52,7 +52,7 @@ abbrev pub has_kind : Option Kind → Bool
 has_kind None = false
 has_kind (Some k) = true
 
-pub is_made : (op : Op) (own : List Entry) (s : State) → made_by op own ≡ Some s → has_kind (kind_of s) ≡ true
+pub is_made : (op : Op) (own : List Entry) (s : ObjectState) → made_by op own ≡ Some s → has_kind (kind_of s) ≡ true
 is_made (NewChannel name c) own s h = ap has_kind (kind_made (NewChannel name c) own s h)
 is_made (NewAtomic name v) own s h = ap has_kind (kind_made (NewAtomic name v) own s h)
 is_made (NewEvent name auto) own s h = ap has_kind (kind_made (NewEvent name auto) own s h)
@@ -62,13 +62,13 @@ is_made (NewSemaphore name n) own s h = ap has_kind (kind_made (NewSemaphore nam
 is_made op own s h = absurd (cc)
 
 -- the states of one kind are those that its own definition gives
-pub record IsKind (S : Type 0) (left : List Entry → Option S) (into : S → State) : Type 0 where
+pub record IsKind (S : Type 0) (left : List Entry → Option S) (into : S → ObjectState) : Type 0 where
   pub kind : Kind
   pub is : (s : S) → kind_of (into s) ≡ Some kind
   pub same : (a b : S) → into a ≡ into b → a ≡ b
   pub here : (op : Op) → kind_by op ≡ Some kind → (own : List Entry) → made_by op own ≡ option_map into (left own)
 
-module _ (S : Type 0) (left : List Entry → Option S) (into : S → State) (k : IsKind S left into) where
+module _ (S : Type 0) (left : List Entry → Option S) (into : S → ObjectState) (k : IsKind S left into) where
   pub made : (s : S) → has_kind (kind_of (into s)) ≡ true
   made s = ap has_kind (k.is s)
 

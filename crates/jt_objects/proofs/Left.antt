@@ -18,7 +18,7 @@ use Rattle.jt_laws.specs.Objects.{reply_after, IsLawful, answer_of, Asked, Allow
 use Rattle.jt_laws.proofs.Asking.{answer_not_yet}
 use Rattle.jt_laws.proofs.Paths.{same_itself, same_equal}
 use Rattle.jt_conditions.specs.Completions.{completion_left_by}
-use Rattle.jt_objects.specs.States.{State, OfPrinter, OfTask, Unmade, are_of, named_left_by, state_of_object, left_by}
+use Rattle.jt_objects.specs.States.{ObjectState, OfPrinter, OfTask, Unmade, are_of, named_left_by, state_of_object, left_by}
 use Rattle.jt_objects.proofs.KindLeft.{kind_of, has_kind, is_made, IsKind, made}
 use Rattle.jt_objects.proofs.KindLeft as by_kind
 
@@ -58,31 +58,31 @@ pub left_if : (o : Object) (past : List Entry) → are_of o past ≡ true → le
 left_if o past h = ap (λ b. if b then state_of_object o past else None) h
 
 -- of a state that a list leaves
-pub was : (o : Object) (past : List Entry) (s : State) → left_by o past ≡ Some s → (are_of o past ≡ true) × (state_of_object o past ≡ Some s)
+pub was : (o : Object) (past : List Entry) (s : ObjectState) → left_by o past ≡ Some s → (are_of o past ≡ true) × (state_of_object o past ≡ Some s)
 was o past s h = by (are_of o past) (state_of_object o past) h
   where
-    by : (b : Bool) (t : Option State) → (if b then t else None) ≡ Some s → (b ≡ true) × (t ≡ Some s)
+    by : (b : Bool) (t : Option ObjectState) → (if b then t else None) ≡ Some s → (b ≡ true) × (t ≡ Some s)
     by true t h = (refl, h)
     by false t h = absurd (cc)
 
 -- no list leaves such a state of this object
-pub never : (o : Object) (task : List ℕ) (op : Op) (s : State) (answer : Ask) (t : State) → ((past : List Entry) → state_of_object o past ≡ Some s → ⊥) → (answer ≡ NotYet → t ≡ s) → Asked State (left_by o) task op s answer t
+pub never : (o : Object) (task : List ℕ) (op : Op) (s : ObjectState) (answer : Ask) (t : ObjectState) → ((past : List Entry) → state_of_object o past ≡ Some s → ⊥) → (answer ≡ NotYet → t ≡ s) → Asked ObjectState (left_by o) task op s answer t
 never o task op s answer t none stays = record {
   answers = λ past l h. absurd (none past (was o past s h).1);
   moves = λ past e l h p q a. absurd (none past (was o past s h).1);
   stays = stays;
 }
 
-pub not_printer : (past : List Entry) (s : State) → has_kind (kind_of s) ≡ true → state_of_object Printer past ≡ Some s → ⊥
+pub not_printer : (past : List Entry) (s : ObjectState) → has_kind (kind_of s) ≡ true → state_of_object Printer past ≡ Some s → ⊥
 not_printer past s k h =
     let q : OfPrinter ≡ s = cc in false≢true (ap (λ z. has_kind (kind_of z)) q ∙ k)
 
-pub not_task : (path : List ℕ) (past : List Entry) (s : State) → has_kind (kind_of s) ≡ true → state_of_object (Task path) past ≡ Some s → ⊥
+pub not_task : (path : List ℕ) (past : List Entry) (s : ObjectState) → has_kind (kind_of s) ≡ true → state_of_object (Task path) past ≡ Some s → ⊥
 not_task path past s k h =
     let q : OfTask (completion_left_by path past) ≡ s = cc in false≢true (ap (λ z. has_kind (kind_of z)) q ∙ k)
 
 -- a named object of no kind isn't made yet
-pub not_named : (past : List Entry) (s : State) → has_kind (kind_of s) ≡ false → (s ≡ Unmade → ⊥) → named_left_by past ≡ Some s → ⊥
+pub not_named : (past : List Entry) (s : ObjectState) → has_kind (kind_of s) ≡ false → (s ≡ Unmade → ⊥) → named_left_by past ≡ Some s → ⊥
 not_named [] s k u h = u (let q : Unmade ≡ s = cc in sym q)
 not_named (e ∷ es) s k u h = false≢true (sym k ∙ is_made e.op (e ∷ es) s h)
 
@@ -91,7 +91,7 @@ unmade [] h = refl
 unmade (e ∷ es) h = absurd (false≢true (is_made e.op (e ∷ es) Unmade h))
 
 -- an object of one kind
-module _ (S : Type 0) (left : List Entry → Option S) (into : S → State) (is : IsKind S left into) where
+module _ (S : Type 0) (left : List Entry → Option S) (into : S → ObjectState) (is : IsKind S left into) where
   down : (past : List Entry) (s : S) → named_left_by past ≡ Some (into s) → left past ≡ Some s
   down [] s h =
       absurd (let q : Unmade ≡ into s = cc in false≢true (ap (λ z. has_kind (kind_of z)) q ∙ made S left into is s))
@@ -107,7 +107,7 @@ module _ (S : Type 0) (left : List Entry → Option S) (into : S → State) (is 
   left_of (Task path) past s h = absurd (not_task path past (into s) (made S left into is s) (was (Task path) past (into s) h).1)
   left_of (Named name) past s h = down past s (was (Named name) past (into s) h).1
 
-  at_named : (name : Name) (task : List ℕ) (op : Op) (before : S) (answer : Ask) (after : S) → object_of task op ≡ Named name → Asked S left task op before answer after → Asked State (left_by (Named name)) task op (into before) answer (into after)
+  at_named : (name : Name) (task : List ℕ) (op : Op) (before : S) (answer : Ask) (after : S) → object_of task op ≡ Named name → Asked S left task op before answer after → Asked ObjectState (left_by (Named name)) task op (into before) answer (into after)
   at_named name task op before answer after n a = record {
     answers = λ past l h. a.answers past l (down past before (was (Named name) past (into before) h).1);
     moves = λ past e l h t p r.
@@ -116,23 +116,23 @@ module _ (S : Type 0) (left : List Entry → Option S) (into : S → State) (is 
     stays = λ h. ap into (a.stays h);
   }
 
-  by_object : (o : Object) (task : List ℕ) (op : Op) (before : S) (answer : Ask) (after : S) → object_of task op ≡ o → ((name : Name) → o ≡ Named name → Asked S left task op before answer after) → (answer ≡ NotYet → after ≡ before) → Asked State (left_by o) task op (into before) answer (into after)
+  by_object : (o : Object) (task : List ℕ) (op : Op) (before : S) (answer : Ask) (after : S) → object_of task op ≡ o → ((name : Name) → o ≡ Named name → Asked S left task op before answer after) → (answer ≡ NotYet → after ≡ before) → Asked ObjectState (left_by o) task op (into before) answer (into after)
   by_object Printer task op before answer after n a stays =
       never Printer task op (into before) answer (into after) (λ past. not_printer past (into before) (made S left into is before)) (λ h. ap into (stays h))
   by_object (Task path) task op before answer after n a stays =
       never (Task path) task op (into before) answer (into after) (λ past. not_task path past (into before) (made S left into is before)) (λ h. ap into (stays h))
   by_object (Named name) task op before answer after n a stays = at_named name task op before answer after n (a name refl)
 
-  pub asked : (task : List ℕ) (op : Op) (before : S) (answer : Ask) (after : S) → ((name : Name) → object_of task op ≡ Named name → Asked S left task op before answer after) → (answer ≡ NotYet → after ≡ before) → Asked State (left_by (object_of task op)) task op (into before) answer (into after)
+  pub asked : (task : List ℕ) (op : Op) (before : S) (answer : Ask) (after : S) → ((name : Name) → object_of task op ≡ Named name → Asked S left task op before answer after) → (answer ≡ NotYet → after ≡ before) → Asked ObjectState (left_by (object_of task op)) task op (into before) answer (into after)
   asked task op before answer after a stays = by_object (object_of task op) task op before answer after refl a stays
 
-  can : (o : Object) (task : List ℕ) (op : Op) (s : S) (answer : Bool) → ((name : Name) → o ≡ Named name → Allowed S left task op s answer) → Allowed State (left_by o) task op (into s) answer
+  can : (o : Object) (task : List ℕ) (op : Op) (s : S) (answer : Bool) → ((name : Name) → o ≡ Named name → Allowed S left task op s answer) → Allowed ObjectState (left_by o) task op (into s) answer
   can Printer task op s answer a past l h = absurd (not_printer past (into s) (made S left into is s) (was Printer past (into s) h).1)
   can (Task path) task op s answer a past l h =
       absurd (not_task path past (into s) (made S left into is s) (was (Task path) past (into s) h).1)
   can (Named name) task op s answer a past l h = a name refl past l (down past s (was (Named name) past (into s) h).1)
 
-  pub allowed : (task : List ℕ) (op : Op) (s : S) (answer : Bool) → ((name : Name) → object_of task op ≡ Named name → Allowed S left task op s answer) → Allowed State (left_by (object_of task op)) task op (into s) answer
+  pub allowed : (task : List ℕ) (op : Op) (s : S) (answer : Bool) → ((name : Name) → object_of task op ≡ Named name → Allowed S left task op s answer) → Allowed ObjectState (left_by (object_of task op)) task op (into s) answer
   allowed task op s answer a = can (object_of task op) task op s answer a
 
   -- what is answered to an operation of another kind changes nothing either

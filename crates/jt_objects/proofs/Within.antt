@@ -11,7 +11,7 @@ use Rattle.jt_channels.specs.Steps.{numbered}
 use Rattle.jt_conditions.specs.Conditions.{Condition, condition_left_by}
 use Rattle.jt_conditions.specs.Locks.{Holder, lock_left_by, level_in}
 use Rattle.jt_conditions.proofs.EntryCounts.{lock_level, condition_level}
-use Rattle.jt_objects.specs.States.{State, OfChannel, OfCondition, OfLock, left_by}
+use Rattle.jt_objects.specs.States.{ObjectState, OfChannel, OfCondition, OfLock, left_by}
 use Rattle.jt_objects.specs.Needs.{HasFewOffers, IsLevelSmall, IsWithin}
 use Rattle.jt_objects.proofs.KindLeft.{channels, conditions, locks}
 use Rattle.jt_objects.proofs.Left as kind
@@ -24,7 +24,7 @@ small_level : (holder : Option Holder) (task : List ℕ) (op : Op) → level_in 
 small_level holder task (Lock name) h = h
 small_level holder task op h = tt
 
-pub within : (o : Object) (own : List Entry) (s : State) (task : List ℕ) (op : Op) → IsLawful own → left_by o own ≡ Some s → length own < 2 ^ 32 → IsWithin s task op
+pub within : (o : Object) (own : List Entry) (s : ObjectState) (task : List ℕ) (op : Op) → IsLawful own → left_by o own ≡ Some s → length own < 2 ^ 32 → IsWithin s task op
 within o own (OfChannel c) task op l h few =
     let most = offers_le own c l (kind.left_of Channel channel_left_by OfChannel channels o own c h) in
     few_offers c op (omega (arith, most, few))

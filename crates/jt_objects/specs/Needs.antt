@@ -5,12 +5,12 @@ use Rattle.jt_base.specs.declared.operation.Op.TheVariants.{Put, Offer, Lock, CW
 use Rattle.jt_laws.specs.Channels.{Channel}
 use Rattle.jt_channels.specs.Steps.{numbered}
 use Rattle.jt_conditions.specs.Locks.{Holder, level_in}
-use Rattle.jt_objects.specs.States.{State, OfPrinter, OfTask, Unmade, OfChannel, OfAtomic, OfEvent, OfCondition, OfLock, OfSemaphore}
+use Rattle.jt_objects.specs.States.{ObjectState, OfPrinter, OfTask, Unmade, OfChannel, OfAtomic, OfEvent, OfCondition, OfLock, OfSemaphore}
 use Rattle.jt_objects.specs.declared.shared.Shared.{Shared}
 use Rattle.jt_objects.specs.declared.shared.Shared.TheVariants as shared
 
 -- the state alone
-abbrev pub state_of : Shared → State
+abbrev pub state_of : Shared → ObjectState
 state_of shared.Printer = OfPrinter
 state_of (shared.Task completion) = OfTask completion
 state_of shared.Unmade = Unmade
@@ -31,10 +31,10 @@ abbrev pub HasConditionRoom : ℕ → Op → Type 0
 HasConditionRoom room (CWait name) = 0 < room
 HasConditionRoom room op = Unit {0}
 
-abbrev pub HasRoom : Shared → Op → Type 0
-HasRoom (shared.Channel c) op = HasChannelRoom c.room op
-HasRoom (shared.Condition c) op = HasConditionRoom c.room op
-HasRoom s op = Unit {0}
+abbrev pub HasObjectRoom : Shared → Op → Type 0
+HasObjectRoom (shared.Channel c) op = HasChannelRoom c.room op
+HasObjectRoom (shared.Condition c) op = HasConditionRoom c.room op
+HasObjectRoom s op = Unit {0}
 
 -- the number that the operation raises is small: that of a channel's offers, or the task's level of a
 -- lock
@@ -46,7 +46,7 @@ abbrev pub IsLevelSmall : Option Holder → List ℕ → Op → Type 0
 IsLevelSmall holder task (Lock name) = level_in holder task < 2 ^ 32
 IsLevelSmall holder task op = Unit {0}
 
-abbrev pub IsWithin : State → List ℕ → Op → Type 0
+abbrev pub IsWithin : ObjectState → List ℕ → Op → Type 0
 IsWithin (OfChannel c) task op = HasFewOffers c op
 IsWithin (OfCondition c) task op = IsLevelSmall c.holder task op
 IsWithin (OfLock holder) task op = IsLevelSmall holder task op

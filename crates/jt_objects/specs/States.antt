@@ -18,16 +18,16 @@ use Rattle.jt_conditions.specs.Semaphores.{Semaphore, semaphore_left_by}
 
 -- the printer, which has none; a task's completion, none before its Spawn; a named object that isn't
 -- made yet; and each kind of named object
-pub data State : Type 0 where
-  OfPrinter : State
-  OfTask : (completion : Option Completion) → State
-  Unmade : State
-  OfChannel : (channel : Channel) → State
-  OfAtomic : (value : ℤ) → State
-  OfEvent : (event : EventState) → State
-  OfCondition : (condition : Condition) → State
-  OfLock : (holder : Option Holder) → State
-  OfSemaphore : (semaphore : Semaphore) → State
+pub data ObjectState : Type 0 where
+  OfPrinter : ObjectState
+  OfTask : (completion : Option Completion) → ObjectState
+  Unmade : ObjectState
+  OfChannel : (channel : Channel) → ObjectState
+  OfAtomic : (value : ℤ) → ObjectState
+  OfEvent : (event : EventState) → ObjectState
+  OfCondition : (condition : Condition) → ObjectState
+  OfLock : (holder : Option Holder) → ObjectState
+  OfSemaphore : (semaphore : Semaphore) → ObjectState
 
 -- the operations that make a named object
 abbrev pub makes_object : Op → Bool
@@ -44,7 +44,7 @@ abbrev pub are_of : Object → List Entry → Bool
 are_of o own = list_all (λ e. same_object (object e) o) own
 
 -- a named object is of the kind that its first entry makes
-abbrev pub made_by : Op → List Entry → Option State
+abbrev pub made_by : Op → List Entry → Option ObjectState
 made_by (NewChannel name capacity) own = option_map OfChannel (channel_left_by own)
 made_by (NewAtomic name v) own = option_map OfAtomic (atomic_left_by own)
 made_by (NewEvent name auto) own = option_map OfEvent (event_left_by own)
@@ -53,15 +53,15 @@ made_by (NewLock name) own = option_map OfLock (lock_left_by own)
 made_by (NewSemaphore name count) own = option_map OfSemaphore (semaphore_left_by own)
 made_by op own = None
 
-abbrev pub named_left_by : List Entry → Option State
+abbrev pub named_left_by : List Entry → Option ObjectState
 named_left_by [] = Some Unmade
 named_left_by (e ∷ es) = made_by e.op (e ∷ es)
 
-abbrev pub state_of_object : Object → List Entry → Option State
+abbrev pub state_of_object : Object → List Entry → Option ObjectState
 state_of_object object.Printer own = Some OfPrinter
 state_of_object (object.Task path) own = Some (OfTask (completion_left_by path own))
 state_of_object (object.Named name) own = named_left_by own
 
 -- the state that a list of the object's entries leaves
-abbrev pub left_by : Object → List Entry → Option State
+abbrev pub left_by : Object → List Entry → Option ObjectState
 left_by o own = if are_of o own then state_of_object o own else None

@@ -5,8 +5,8 @@ ghost use Rattle.jt_base.specs.declared.entry.Ask.TheVariants as asked;
 ghost use Rattle.jt_base.specs.declared.operation.Op.{Op as OpOf};
 ghost use Rattle.jt_base.specs.Objects.{object_of};
 ghost use Rattle.jt_laws.specs.Objects.{Allowed, Asked, MadeBy};
-ghost use Rattle.jt_objects.specs.States.{State, OfPrinter, OfTask, Unmade, OfAtomic, makes_object, named_left_by, left_by};
-ghost use Rattle.jt_objects.specs.Needs.{state_of, HasRoom, IsWithin};
+ghost use Rattle.jt_objects.specs.States.{ObjectState, OfPrinter, OfTask, Unmade, OfAtomic, makes_object, named_left_by, left_by};
+ghost use Rattle.jt_objects.specs.Needs.{state_of, HasObjectRoom, IsWithin};
 
 use jt_base::{Ask, Object, Op, OutOfMemory, Path, Reply};
 use jt_channels::{Cell64, Chan};
@@ -47,8 +47,8 @@ impl Shared {
     /// waits on a condition. After `OutOfMemory` the object is as before.
     pub fn reserve(&mut self, op: &Op) -> Result<(), OutOfMemory>
         ensures state { state_of self.new ≡ state_of self.old }
-        ensures kept { (earlier : OpOf) → HasRoom self.old earlier → HasRoom self.new earlier }
-        ensures room { OnOk result (HasRoom self.new op.now) }
+        ensures kept { (earlier : OpOf) → HasObjectRoom self.old earlier → HasObjectRoom self.new earlier }
+        ensures room { OnOk result (HasObjectRoom self.new op.now) }
     {
         match (self, op) {
             (Shared::Channel(channel), Op::Put(_, _) | Op::Offer(_, _)) => channel.reserve(),
@@ -62,9 +62,9 @@ impl Shared {
     /// it, at a second one of these, and at operations on another kind of object: the object is then
     /// as it was. It takes no memory.
     pub fn ask(&mut self, alloc: Global, task: &Path, op: &Op) -> Ask
-        requires reserved { HasRoom self.old op.now }
+        requires reserved { HasObjectRoom self.old op.now }
         requires small { IsWithin (state_of self.old) task.now op.now }
-        ensures law { Asked State (left_by (object_of task.now op.now)) task.now op.now (state_of self.old) result (state_of self.new) }
+        ensures law { Asked ObjectState (left_by (object_of task.now op.now)) task.now op.now (state_of self.old) result (state_of self.new) }
         ensures not_yet { result ≡ asked.NotYet → self.new ≡ self.old }
     {
         match self {
@@ -82,7 +82,7 @@ impl Shared {
 
     /// Whether `ask` would answer a task's operation `Done` now.
     pub fn allows(&self, task: &Path, op: &Op) -> bool
-        ensures { Allowed State (left_by (object_of task.now op.now)) task.now op.now (state_of self.now) result }
+        ensures { Allowed ObjectState (left_by (object_of task.now op.now)) task.now op.now (state_of self.now) result }
     {
         match self {
             Shared::Printer => matches!(op, Op::Print(_)),
@@ -100,7 +100,7 @@ impl Shared {
 
 /// Answers an operation on the printer: a print is always allowed.
 fn print(op: &Op) -> Ask
-    ensures { (task : List ℕ) → Asked State (left_by (object_of task op.now)) task op.now OfPrinter result OfPrinter }
+    ensures { (task : List ℕ) → Asked ObjectState (left_by (object_of task op.now)) task op.now OfPrinter result OfPrinter }
 {
     match op {
         Op::Print(_) => Ask::Done(Reply::Ok),
@@ -111,7 +111,7 @@ fn print(op: &Op) -> Ask
 /// Answers an operation on a task. A Spawn makes a task that isn't there, and nothing else is
 /// allowed then.
 fn ask_task(completion: &mut Option<Completion>, op: &Op) -> Ask
-    ensures law { (task : List ℕ) → Asked State (left_by (object_of task op.now)) task op.now (OfTask completion.old) result (OfTask completion.new) }
+    ensures law { (task : List ℕ) → Asked ObjectState (left_by (object_of task op.now)) task op.now (OfTask completion.old) result (OfTask completion.new) }
     ensures not_yet { result ≡ asked.NotYet → completion.new ≡ completion.old }
 {
     match completion {
@@ -128,7 +128,7 @@ fn ask_task(completion: &mut Option<Completion>, op: &Op) -> Ask
 
 /// Whether an operation on a task is allowed.
 fn allows_task(completion: &Option<Completion>, op: &Op) -> bool
-    ensures { (task : List ℕ) → Allowed State (left_by (object_of task op.now)) task op.now (OfTask completion.now) result }
+    ensures { (task : List ℕ) → Allowed ObjectState (left_by (object_of task op.now)) task op.now (OfTask completion.now) result }
 {
     match completion {
         Some(completion) => completion.allows(op),
@@ -138,7 +138,7 @@ fn allows_task(completion: &Option<Completion>, op: &Op) -> bool
 
 /// Answers an operation on an atomic number.
 fn ask_atomic(atomic: &mut Cell64, op: &Op) -> Ask
-    ensures law { (task : List ℕ) → Asked State (left_by (object_of task op.now)) task op.now (OfAtomic atomic.old) result (OfAtomic atomic.new) }
+    ensures law { (task : List ℕ) → Asked ObjectState (left_by (object_of task op.now)) task op.now (OfAtomic atomic.old) result (OfAtomic atomic.new) }
     ensures not_yet { result ≡ asked.NotYet → atomic.new ≡ atomic.old }
 {
     if !atomic.allows(op) {
@@ -150,7 +150,7 @@ fn ask_atomic(atomic: &mut Cell64, op: &Op) -> Ask
 /// Makes a named object that isn't made yet. No other operation is allowed then.
 fn make(object: &mut Shared, alloc: Global, op: &Op) -> Ask
     requires { state_of object.old ≡ Unmade }
-    ensures law { (task : List ℕ) → Asked State (left_by (object_of task op.now)) task op.now Unmade result (state_of object.new) }
+    ensures law { (task : List ℕ) → Asked ObjectState (left_by (object_of task op.now)) task op.now Unmade result (state_of object.new) }
     ensures not_yet { result ≡ asked.NotYet → object.new ≡ object.old }
 {
     match made(alloc, op) {
@@ -164,7 +164,7 @@ fn make(object: &mut Shared, alloc: Global, op: &Op) -> Ask
 
 /// The object that an operation makes, if it makes one.
 fn made(alloc: Global, op: &Op) -> Option<Shared>
-    ensures new { IfSome result (λ object. MadeBy State named_left_by op.now (state_of object)) }
+    ensures new { IfSome result (λ object. MadeBy ObjectState named_left_by op.now (state_of object)) }
     ensures makes { IfSome result (λ object. makes_object op.now ≡ true) }
     ensures none { IfNone result (makes_object op.now ≡ false) }
 {

@@ -13,7 +13,7 @@ use Rattle.jt_scopes.specs.Scopes.{loop_kind, function_kind, script_kind, task_k
 use Rattle.jt_places.specs.declared.place.Place.{Place}
 use Rattle.jt_places.specs.declared.standing.Standing.{Standing}
 use Rattle.jt_scopes.specs.Awaited.{is_synced, is_awaited}
-use Rattle.jt_places.specs.Kept.{scopes_in, names_in, Keeps, AreKept, IsChain, slot_in, capture_in, begins_global}
+use Rattle.jt_places.specs.Kept.{scopes_in, names_in, KeepsScopes, AreKept, IsChain, slot_in, capture_in, begins_global}
 use Rattle.jt_scopes.specs.Slots.{first, behind}
 use Rattle.jt_places.specs.Standings.{begin_of, function_of, task_of, repeats, standing_of, within}
 use Rattle.jt_scopes.specs.Tests.{outer, in_script, in_function}
@@ -24,7 +24,7 @@ abbrev pub rest : List Scope → List Scope
 rest [] = []
 rest (r ∷ c) = c
 
-pub scope_kept : (p : Place) (c : List Scope) → Keeps p c → c ≡ p.scope.now ∷ rest c
+pub scope_kept : (p : Place) (c : List Scope) → KeepsScopes p c → c ≡ p.scope.now ∷ rest c
 scope_kept p [] k = absurd k
 scope_kept p (r ∷ c) k = ap (λ z. z ∷ c) (sym k.scope)
 
@@ -40,7 +40,7 @@ get_last (q ∷ ps) p = get_last ps p
 same_some : (p q : Place) → Some p ≡ Some q → p ≡ q
 same_some p q e = cc
 
-pub at_kept : (ps : List Place) (k : ℕ) (p : Place) → AreKept ps → slice_get (reverse ps) k ≡ Some p → Keeps p (outer (suc k) (scopes_in ps))
+pub at_kept : (ps : List Place) (k : ℕ) (p : Place) → AreKept ps → slice_get (reverse ps) k ≡ Some p → KeepsScopes p (outer (suc k) (scopes_in ps))
 at_kept [] k p h e = absurd (let within : k < 0 = slice_get_within [] k p e in omega arith)
 at_kept (q ∷ ps) k p h e = by (cases_lt k (length ps)) (λ f. at_kept ps k p h.1 f)
   where
@@ -53,21 +53,21 @@ at_kept (q ∷ ps) k p h e = by (cases_lt k (length ps)) (λ f. at_kept ps k p h
     back : length (reverse ps) ≡ length ps
     back = length-reverse ps
 
-    by : (k < length ps) ⊎ (length ps ≤ k) → (slice_get (reverse ps) k ≡ Some p → Keeps p (outer (suc k) (scopes_in ps))) → Keeps p (outer (suc k) (scopes_in (q ∷ ps)))
-    by (inl l) g = subst (Keeps p) (sym (outer_further (suc k) q.scope.now (scopes_in ps) (omega (arith, long, back))))
+    by : (k < length ps) ⊎ (length ps ≤ k) → (slice_get (reverse ps) k ≡ Some p → KeepsScopes p (outer (suc k) (scopes_in ps))) → KeepsScopes p (outer (suc k) (scopes_in (q ∷ ps)))
+    by (inl l) g = subst (KeepsScopes p) (sym (outer_further (suc k) q.scope.now (scopes_in ps) (omega (arith, long, back))))
         (g (sym (ap (λ z. slice_get z k) turned ∙ get_left (reverse ps) q k (omega (arith, long, back))) ∙ e))
     by (inr l) g =
         let within : k < length (reverse ps ++ q ∷ []) = slice_get_within (reverse ps ++ q ∷ []) k p (sym (ap (λ z. slice_get z k) turned) ∙ e) in
         let last : k ≡ length (reverse ps) = omega (arith, length_push (reverse ps) q, back) in
         let same : q ≡ p = same_some q p (sym (get_last (reverse ps) q) ∙ (ap (slice_get (reverse ps ++ q ∷ [])) (sym last) ∙ (sym (ap (λ z. slice_get z k) turned) ∙ e))) in
-        subst (Keeps p) (sym (outer_all (suc k) (scopes_in (q ∷ ps)) (omega (arith, long, back)))) (subst (λ z. Keeps z (scopes_in (q ∷ ps))) same h.0)
+        subst (KeepsScopes p) (sym (outer_all (suc k) (scopes_in (q ∷ ps)) (omega (arith, long, back)))) (subst (λ z. KeepsScopes z (scopes_in (q ∷ ps))) same h.0)
 
 -- a place by its index among those that stand the other way round
-pub at_index : (qs : List Place) (h : List (List Identifier)) (depth k : ℕ) (p : Place) → IsChain (reverse qs) h → min depth (length qs) ≡ k + 1 → slice_get qs k ≡ Some p → Keeps p (outer depth (scopes_in (reverse qs)))
+pub at_index : (qs : List Place) (h : List (List Identifier)) (depth k : ℕ) (p : Place) → IsChain (reverse qs) h → min depth (length qs) ≡ k + 1 → slice_get qs k ≡ Some p → KeepsScopes p (outer depth (scopes_in (reverse qs)))
 at_index qs h depth k p c m e =
     let long : length (scopes_in (reverse qs)) ≡ length qs = length-map (reverse qs) (λ p. p.scope.now) ∙ length-reverse qs in
     let deep : min depth (length (scopes_in (reverse qs))) ≡ suc k = ap (min depth) long ∙ (m ∙ omega arith) in
-    subst (Keeps p) (sym (ap (λ n. outer n (scopes_in (reverse qs))) deep) ∙ outer_min depth (scopes_in (reverse qs))) (at_kept (reverse qs) k p c.kept (ap (λ z. slice_get z k) (reverse-reverse qs) ∙ e))
+    subst (KeepsScopes p) (sym (ap (λ n. outer n (scopes_in (reverse qs))) deep) ∙ outer_min depth (scopes_in (reverse qs))) (at_kept (reverse qs) k p c.kept (ap (λ z. slice_get z k) (reverse-reverse qs) ∙ e))
 
 pub length_places : (qs : List Place) → length (scopes_in (reverse qs)) ≡ length qs
 length_places qs = length-map (reverse qs) (λ p. p.scope.now) ∙ length-reverse qs

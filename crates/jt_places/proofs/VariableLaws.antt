@@ -8,7 +8,7 @@ use Rattle.jt_scopes.specs.declared.scope.Scope.{Scope}
 use Rattle.jt_scopes.specs.Scopes.{is_inner}
 use Rattle.jt_scopes.specs.Slots as slots
 use Rattle.jt_scopes.specs.Slots.{room, first, behind}
-use Rattle.jt_places.specs.Variables.{Variable, local, captured, captures_at, Has, IsThere, place, further, either, local_of, captured_of, means}
+use Rattle.jt_places.specs.Variables.{Variable, local, captured, captures_at, HasVariable, IsThere, place, further, either, local_of, captured_of, means}
 
 inner_first : (b : Bool) (k n : ℕ) → b ≡ true → (if b then k else n) ≡ k
 inner_first true k n e = refl
@@ -26,7 +26,7 @@ captures_below (r ∷ c) = let k : length (captures_at (r ∷ c)) ≤ first r c 
 captures_first : (r : Scope) (c : List Scope) → length (captures_at (r ∷ c)) ≤ first r c
 captures_first r c = captures_by (is_inner r) c r (captures_below c)
 
-local_below : (c : List Scope) (b i : ℕ) → Has c (local b i) → place c (local b i) < room c
+local_below : (c : List Scope) (b i : ℕ) → HasVariable c (local b i) → place c (local b i) < room c
 local_below [] b i h = absurd h
 local_below (r ∷ c) zero i h = let k : i < length r.names = h in omega arith
 local_below (r ∷ c) (suc b) i h =
@@ -34,12 +34,12 @@ local_below (r ∷ c) (suc b) i h =
     let k : place c (local b i) < room c = local_below c b i h.1 in omega arith
 
 -- a variable of a scope further out stands below those of a scope
-outer_first : (r : Scope) (c : List Scope) (b i : ℕ) → Has (r ∷ c) (local (suc b) i) → place c (local b i) < first r c
+outer_first : (r : Scope) (c : List Scope) (b i : ℕ) → HasVariable (r ∷ c) (local (suc b) i) → place c (local b i) < first r c
 outer_first r c b i h =
     let e : first r c ≡ room c = inner_first (is_inner r) (room c) (length r.captures) h.0 in
     let k : place c (local b i) < room c = local_below c b i h.1 in omega arith
 
-pub place_below : (c : List Scope) (v : Variable) → Has c v → place c v < room c
+pub place_below : (c : List Scope) (v : Variable) → HasVariable c v → place c v < room c
 place_below c (local b i) h = local_below c b i h
 place_below c (captured i) h = let k : i < length (captures_at c) = h in omega (arith, captures_below c)
 
@@ -47,12 +47,12 @@ captures_inner : (b : Bool) (c : List Scope) (r : Scope) → b ≡ true → leng
 captures_inner true c r e = refl
 captures_inner false c r e = absurd (cc)
 
-captured_apart : (c : List Scope) (b i j : ℕ) → i < length (captures_at c) → Has c (local b j) → i ≡ place c (local b j) → ⊥
+captured_apart : (c : List Scope) (b i j : ℕ) → i < length (captures_at c) → HasVariable c (local b j) → i ≡ place c (local b j) → ⊥
 captured_apart [] b i j h k e = k
 captured_apart (r ∷ c) zero i j h k e = let p : length (captures_at (r ∷ c)) ≤ first r c = captures_first r c in omega arith
 captured_apart (r ∷ c) (suc b) i j h k e = let p : length (captures_at (r ∷ c)) ≡ length (captures_at c) = captures_inner (is_inner r) c r k.0 in captured_apart c b i j (omega arith) k.1 e
 
-local_apart : (c : List Scope) (a b i j : ℕ) → Has c (local a i) → Has c (local b j) → place c (local a i) ≡ place c (local b j) → local a i ≡ local b j
+local_apart : (c : List Scope) (a b i j : ℕ) → HasVariable c (local a i) → HasVariable c (local b j) → place c (local a i) ≡ place c (local b j) → local a i ≡ local b j
 local_apart [] a b i j h k p = absurd h
 local_apart (r ∷ c) zero zero i j h k p = let q : i ≡ j = omega arith in ap (local 0) q
 local_apart (r ∷ c) zero (suc b) i j h k p = let q : place c (local b j) < first r c = outer_first r c b j k in absurd (omega arith)
@@ -60,7 +60,7 @@ local_apart (r ∷ c) (suc a) zero i j h k p = let q : place c (local a i) < fir
 local_apart (r ∷ c) (suc a) (suc b) i j h k p = ap further (local_apart c a b i j h.1 k.1 p)
 
 -- two variables at one place have two slots, also where one hides the other
-pub place_apart : (c : List Scope) (v w : Variable) → Has c v → Has c w → place c v ≡ place c w → v ≡ w
+pub place_apart : (c : List Scope) (v w : Variable) → HasVariable c v → HasVariable c w → place c v ≡ place c w → v ≡ w
 place_apart c (local a i) (local b j) h k p = local_apart c a b i j h k p
 place_apart c (local a i) (captured j) h k p = absurd (captured_apart c a j i k h (sym p))
 place_apart c (captured i) (local b j) h k p = absurd (captured_apart c b i j h k p)
@@ -72,7 +72,7 @@ place_apart c (captured i) (captured j) h k p = ap captured p
 abbrev pub Meant : List Scope → Option ℕ → Option Variable → Type 0
 Meant c n o = IsThere c o × (n ≡ option_map (place c) o)
 
-further_has : (r : Scope) (c : List Scope) (v : Variable) → is_inner r ≡ true → Has c v → Has (r ∷ c) (further v)
+further_has : (r : Scope) (c : List Scope) (v : Variable) → is_inner r ≡ true → HasVariable c v → HasVariable (r ∷ c) (further v)
 further_has r c (local b i) e h = (e, h)
 further_has r c (captured i) e h = let k : length (captures_at (r ∷ c)) ≡ length (captures_at c) = captures_inner (is_inner r) c r e in let l : i < length (captures_at c) = h in omega arith
 

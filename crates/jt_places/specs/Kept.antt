@@ -23,13 +23,13 @@ pub record IsKept (p : Place) (r : Scope) (c : List Scope) : Type 0 where
   pub first : p.first ≡ first r c
   pub standing : p.standing ≡ standing_of (r ∷ c)
 
-abbrev pub Keeps : Place → List Scope → Type 0
-Keeps p [] = ⊥
-Keeps p (r ∷ c) = IsKept p r c
+abbrev pub KeepsScopes : Place → List Scope → Type 0
+KeepsScopes p [] = ⊥
+KeepsScopes p (r ∷ c) = IsKept p r c
 
 abbrev pub AreKept : List Place → Type 0
 AreKept [] = Unit {0}
-AreKept (p ∷ ps) = Keeps p (scopes_in (p ∷ ps)) × AreKept ps
+AreKept (p ∷ ps) = KeepsScopes p (scopes_in (p ∷ ps)) × AreKept ps
 
 -- a chain's places, and the names of its scopes
 pub record IsChain (ps : List Place) (h : List (List Identifier)) : Type 0 where

@@ -18,11 +18,11 @@ captures_at [] = []
 captures_at (r ∷ c) = if is_inner r then captures_at c else r.captures
 
 -- there is such a variable in the same function, task's body or script
-abbrev pub Has : List Scope → Variable → Type 0
-Has c (captured i) = i < length (captures_at c)
-Has [] (local b i) = ⊥
-Has (r ∷ c) (local zero i) = i < length r.names
-Has (r ∷ c) (local (suc b) i) = (is_inner r ≡ true) × Has c (local b i)
+abbrev pub HasVariable : List Scope → Variable → Type 0
+HasVariable c (captured i) = i < length (captures_at c)
+HasVariable [] (local b i) = ⊥
+HasVariable (r ∷ c) (local zero i) = i < length r.names
+HasVariable (r ∷ c) (local (suc b) i) = (is_inner r ≡ true) × HasVariable c (local b i)
 
 -- its slot
 abbrev pub place : List Scope → Variable → ℕ
@@ -58,4 +58,4 @@ means c x = either (local_of c x) (captured_of c x)
 -- the variable, if any, is there
 abbrev pub IsThere : List Scope → Option Variable → Type 0
 IsThere c None = Unit {0}
-IsThere c (Some v) = Has c v
+IsThere c (Some v) = HasVariable c v

@@ -38,7 +38,7 @@ impl<'a> Model for Chain<'a> {
 }
 
 impl<'a> Chain<'a> {
-    ghost use Rattle.jt_places.specs.Kept.{Keeps};
+    ghost use Rattle.jt_places.specs.Kept.{KeepsScopes};
 
     /// No scopes.
     pub fn new(alloc: Global) -> Self
@@ -89,7 +89,7 @@ impl<'a> Chain<'a> {
 
     /// The innermost of the outermost `depth` scopes.
     pub(crate) fn at(&self, depth: usize) -> Option<Place<'a>>
-        ensures { MatchOption result (spec.outer depth self.now ≡ []) (λ p. Keeps p (spec.outer depth self.now)) }
+        ensures { MatchOption result (spec.outer depth self.now ≡ []) (λ p. KeepsScopes p (spec.outer depth self.now)) }
     {
         let depth = depth.min(self.places.len());
         match depth.checked_sub(1) {
@@ -120,7 +120,7 @@ impl<'a> Chain<'a> {
 
     /// A scope that begins within the others.
     fn place_of(&self, scope: &'a Scope) -> Result<Place<'a>, AllocError>
-        ensures { IfOk result (λ p. Keeps p (scope.now ∷ self.now)) }
+        ensures { IfOk result (λ p. KeepsScopes p (scope.now ∷ self.now)) }
     {
         let depth = self.places.len().checked_add(1).ok_or(AllocError)?;
         let first = self.first(scope);

@@ -5,13 +5,13 @@ ghost use Rattle.std.specs.Prelude.{◌≡◌, ◌<◌, List, option_map};
 ghost use Rattle.jt_names.specs.Names.{Name};
 ghost use Rattle.jt_scopes.specs.declared.scope.Scope.{Scope};
 ghost use Rattle.jt_scopes.specs.Slots as slots;
-ghost use Rattle.jt_places.specs.Variables.{Variable, Has, IsThere, place, either, local_of, captured_of, means};
+ghost use Rattle.jt_places.specs.Variables.{Variable, HasVariable, IsThere, place, either, local_of, captured_of, means};
 
 /// Each variable at a place has a slot below the room, and two variables have two slots, also where one
 /// hides the other.
 pub fn variables_have_slots_of_their_own()
-    ensures below { (c : List Scope) (v : Variable) → Has c v → place c v < slots.room c }
-    ensures apart { (c : List Scope) (v w : Variable) → Has c v → Has c w → place c v ≡ place c w → v ≡ w }
+    ensures below { (c : List Scope) (v : Variable) → HasVariable c v → place c v < slots.room c }
+    ensures apart { (c : List Scope) (v w : Variable) → HasVariable c v → HasVariable c w → place c v ≡ place c w → v ≡ w }
 {}
 
 /// The slot that stands for a name is that of the variable that the name means: for an assignment, for

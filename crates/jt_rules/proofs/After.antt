@@ -14,7 +14,7 @@ use Rattle.jt_rules.specs.declared.found.Found.{Found}
 use Rattle.jt_naming.specs.declared.rules.Broken.{Broken}
 use Rattle.jt_naming.specs.Rules.{Context, mark_breaks, breaks, is_call, calls, function_breaks, constant_breaks}
 use Rattle.jt_naming.specs.Scripts.{context_of, parameters_break, functions_break, parts_break, broken_rules}
-use Rattle.jt_rules.specs.Walk.{worse, judged, opened, cleared, headed, nothing_found, Stand, left, checked, checked_all, checked_functions, with_constant, checked_parts, checked_script, Answers}
+use Rattle.jt_rules.specs.Walk.{worse, judged, opened, cleared, headed, nothing_found, Stand, left, checked, checked_all, checked_functions, with_constant, checked_parts, checked_script, Judges}
 use Rattle.jt_rules.proofs.Least.{worse_append, worst_answers}
 
 -- ---- what is found
@@ -145,7 +145,7 @@ context_in ts r = context_with (constants_of [] ts) (signatures_of [] ts) r
 
 -- r, the script's own scope; rs, those within it
 found_answers : (ts : List TopTree) (o : OutlineTree) (r : Scope) (rs : List Scope) (b : Option Broken) → o ≡ outline_of ts → r ≡ script_scope o.parts → rs ≡ scopes_within (script_scope o.parts) o
-    → b ≡ least_of (context_in ts r) r rs o → Answers ts b
+    → b ≡ least_of (context_in ts r) r rs o → Judges ts b
 found_answers ts o r rs b e f g h =
     let q : OutlineTree = outline_of ts in
     let own : r ≡ script_scope q.parts = f ∙ ap (λ z. script_scope z.parts) e in
@@ -154,7 +154,7 @@ found_answers ts o r rs b e f g h =
     worst_answers ts b (h ∙ (least_same (context_in ts r) (context_of ts) r (script_scope q.parts) rs (scopes_within (script_scope q.parts) q) o q whole own inner e ∙ goes_script ts))
 
 pub answered : (ts : List TopTree) (o : OutlineTree) (all : List Scope) (r : Scope) (rs : List Scope) (ks : List Identifier) (fs : List Signature) (b : Option Broken) → o ≡ outline_of ts → all ≡ scopes_of o → all ≡ r ∷ rs
-    → ks ≡ constants_of [] ts → fs ≡ signatures_of [] ts → b ≡ (checked_script (record { constants = ks; functions = fs; variables = r.names }) r rs o).found.least → Answers ts b
+    → ks ≡ constants_of [] ts → fs ≡ signatures_of [] ts → b ≡ (checked_script (record { constants = ks; functions = fs; variables = r.names }) r rs o).found.least → Judges ts b
 unfolding least_of
 answered ts o all r rs ks fs b e f g k l h =
     let both : r ∷ rs ≡ script_scope o.parts ∷ scopes_within (script_scope o.parts) o = sym g ∙ f in

@@ -3,8 +3,8 @@ use Rattle.std.proofs.Common.{◌≡◌, Bool, true, false, List, [], ◌∷◌,
 use Rattle.std.proofs.lemmas.List.Sums.{fold-append}
 use Rattle.jt_syntax.specs.Tree.{TopTree}
 use Rattle.jt_naming.specs.Rules.{below}
-use Rattle.jt_naming.specs.Scripts.{broken_rules, Among, NoneBelow, IsLeast}
-use Rattle.jt_rules.specs.Walk.{worse, Answers}
+use Rattle.jt_naming.specs.Scripts.{broken_rules, IsOneOf, NoneBelow, IsForemost}
+use Rattle.jt_rules.specs.Walk.{worse, Judges}
 use Rattle.jt_naming.specs.declared.rules.Broken.{Broken}
 use Rattle.jt_rules.proofs.Order.{below_self, below_through, below_other}
 
@@ -12,7 +12,7 @@ pub worse_append : (o : Option Broken) (bs cs : List Broken) → fold worse o (b
 worse_append o bs cs = fold-append worse o bs cs
 
 record Worst (a : Broken) (bs : List Broken) (b : Broken) : Type 0 where
-  among : (b ≡ a) ⊎ Among b bs
+  among : (b ≡ a) ⊎ IsOneOf b bs
   first : below a b ≡ false
   least : NoneBelow b bs
 
@@ -21,7 +21,7 @@ worst_step : (a x : Broken) (xs : List Broken) (b : Broken) (t : Bool) → below
 worst_step a x xs b true h e next = let w : Worst x xs b = next x e in
     record { among = inr w.among; first = below_through x a b h w.first; least = (w.first, w.least) }
 worst_step a x xs b false h e next = let w : Worst a xs b = next a e in
-    record { among = elim w.among as (λ _. (b ≡ a) ⊎ Among b (x ∷ xs)) [ inl p ↦ inl p | inr q ↦ inr (inr q) ]; first = w.first; least = (below_other x a b h w.first, w.least) }
+    record { among = elim w.among as (λ _. (b ≡ a) ⊎ IsOneOf b (x ∷ xs)) [ inl p ↦ inl p | inr q ↦ inr (inr q) ]; first = w.first; least = (below_other x a b h w.first, w.least) }
 
 worst : (a : Broken) (bs : List Broken) (b : Broken) → fold worse (Some a) bs ≡ Some b → Worst a bs b
 worst a [] b e = let same : a ≡ b = cc in subst (λ z. Worst a [] z) same (record { among = inl refl; first = below_self a; least = tt })
@@ -39,10 +39,10 @@ none_broken : (bs : List Broken) → fold worse None bs ≡ None → bs ≡ []
 none_broken [] e = refl
 none_broken (x ∷ xs) e = absurd (some_stays xs x e)
 
-least_broken : (bs : List Broken) (b : Broken) → fold worse None bs ≡ Some b → IsLeast b bs
+least_broken : (bs : List Broken) (b : Broken) → fold worse None bs ≡ Some b → IsForemost b bs
 least_broken [] b e = absurd (cc)
 least_broken (x ∷ xs) b e = let w : Worst x xs b = worst x xs b e in record { among = w.among; least = (w.first, w.least) }
 
-pub worst_answers : (ts : List TopTree) (o : Option Broken) → o ≡ fold worse None (broken_rules ts) → Answers ts o
+pub worst_answers : (ts : List TopTree) (o : Option Broken) → o ≡ fold worse None (broken_rules ts) → Judges ts o
 worst_answers ts None e = none_broken (broken_rules ts) (sym e)
 worst_answers ts (Some b) e = least_broken (broken_rules ts) b (sym e)

@@ -115,6 +115,6 @@ abbrev pub checked_script : Context → Scope → List Scope → OutlineTree →
 checked_script x r rs o = checked_outline x (record { chain = r ∷ []; found = nothing_found; ahead = rs }) o
 
 -- what is answered: the broken rule that counts, or that there is none
-abbrev pub Answers : List TopTree → Option Broken → Type 0
-Answers ts None = BreaksNone ts
-Answers ts (Some b) = Breaks ts b
+abbrev pub Judges : List TopTree → Option Broken → Type 0
+Judges ts None = BreaksNone ts
+Judges ts (Some b) = Breaks ts b

@@ -70,7 +70,7 @@ pub fn check(
 ) -> Result<Checked, AllocError>
     requires outline { outline_view outline.now ≡ outline_of (script_view script.now) }
     requires scopes { scopes.now ≡ scopes_of (outline_view outline.now) }
-    ensures broken { IfOk result (λ c. spec.Answers (script_view script.now) c.broken) }
+    ensures broken { IfOk result (λ c. spec.Judges (script_view script.now) c.broken) }
     ensures constants { IfOk result (λ c. c.constants ≡ constants_of [] (script_view script.now)) }
     ensures functions { IfOk result (λ c. c.functions ≡ signatures_of [] (script_view script.now)) }
 {

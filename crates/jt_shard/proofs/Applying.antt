@@ -11,7 +11,7 @@ use Rattle.jt_laws.specs.Objects.{reply_after, answer_of}
 use Rattle.jt_laws.specs.Seats.{seat_after}
 use Rattle.jt_histories.specs.Jobs.{last_entry, noted_job}
 use Rattle.jt_shard.specs.Shards.{ShardState, object_for, reply_now, next_stamp, next_entry}
-use Rattle.jt_shard.specs.Calls.{Enters, Waits, MeetsLimit}
+use Rattle.jt_shard.specs.Calls.{Enters, Waits, IsAtStampLimit}
 
 pub done_exactly : (o : Option Reply) (r : Reply) → Done r ≡ answer_of o → o ≡ Some r
 done_exactly (Some s) r e = let p : s ≡ r = cc in ap Some p
@@ -29,7 +29,7 @@ module _ {J S : Type 0} (told : J → Held S) where
   pub reply_here : (log : List Entry) (j : J) (op : Op) (o : Object) (r : Option Reply) → o ≡ object_for told j op → reply_after (of_object o log) (told j).path op ≡ r → reply_now told log j op ≡ r
   reply_here log j op o r is e = ap (λ x. reply_after (of_object x log) (told j).path op) (sym is) ∙ e
 
-  pub limit_of : (s : ShardState J) (log : List Entry) (j : J) (op : Op) (o : Object) (last events : ℕ) → log ≡ s.log → events ≡ s.events → o ≡ object_for told j op → ((r : Reply) × (reply_after (of_object o log) (told j).path op ≡ Some r)) → last ≡ last_note (told j).log → events < max last (last_entry log) + 1 → MeetsLimit told s j op op s j
+  pub limit_of : (s : ShardState J) (log : List Entry) (j : J) (op : Op) (o : Object) (last events : ℕ) → log ≡ s.log → events ≡ s.events → o ≡ object_for told j op → ((r : Reply) × (reply_after (of_object o log) (told j).path op ≡ Some r)) → last ≡ last_note (told j).log → events < max last (last_entry log) + 1 → IsAtStampLimit told s j op op s j
   limit_of s log j op o last events l v is r n b = record {
     same = refl;
     allowed = (r.0, ap (λ x. reply_now told x j op) (sym l) ∙ reply_here log j op o (Some r.0) is r.1);

@@ -10,7 +10,7 @@ use Rattle.jt_base.specs.declared.object.Object.{Object}
 use Rattle.jt_base.specs.Objects.{object_of}
 use Rattle.jt_laws.specs.Entries.{of_object}
 use Rattle.jt_laws.specs.Objects.{reply_after, AreLawful, answer_of, Allowed}
-use Rattle.jt_objects.specs.States.{State, left_by}
+use Rattle.jt_objects.specs.States.{ObjectState, left_by}
 use Rattle.jt_objects.specs.Needs.{state_of}
 use Rattle.jt_objects.specs.declared.shared.Shared.{Shared}
 use Rattle.jt_shard.specs.Asking.{Allows, Refuses}
@@ -29,7 +29,7 @@ has_none (Some r) e = absurd (cc)
 has_none None e = refl
 
 -- an object says yes or no
-pub told_by : (s : Shared) (task : List ℕ) (op : Op) (b : Bool) → Allowed State (left_by (object_of task op)) task op (state_of s) b → MatchBool b (Allows s task op) (Refuses s task op)
+pub told_by : (s : Shared) (task : List ℕ) (op : Op) (b : Bool) → Allowed ObjectState (left_by (object_of task op)) task op (state_of s) b → MatchBool b (Allows s task op) (Refuses s task op)
 told_by s task op true a = a
 told_by s task op false a = a
 

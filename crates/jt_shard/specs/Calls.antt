@@ -29,7 +29,7 @@ module _ {J S : Type 0} (told : J → Held S) where
     pub job : j' ≡ j
 
   -- the operation is allowed, but the stamp of its entry would be greater than the limit: nothing changes
-  pub record MeetsLimit (s : ShardState J) (j : J) (op given : Op) (s' : ShardState J) (j' : J) : Type 0 where
+  pub record IsAtStampLimit (s : ShardState J) (j : J) (op given : Op) (s' : ShardState J) (j' : J) : Type 0 where
     pub same : given ≡ op
     pub allowed : (reply : Reply) × (reply_now told s.log j op ≡ Some reply)
     pub beyond : s.events < next_stamp told s.log j
@@ -39,7 +39,7 @@ module _ {J S : Type 0} (told : J → Held S) where
   abbrev pub Applies : ShardState J → J → Op → ℕ → Applied → ShardState J → J → Type 0
   Applies s j op worker (Done reply) s' j' = Enters s j op worker reply s' j'
   Applies s j op worker (NotYet given) s' j' = Waits s j op given s' j'
-  Applies s j op worker (StampLimit given) s' j' = MeetsLimit s j op given s' j'
+  Applies s j op worker (StampLimit given) s' j' = IsAtStampLimit s j op given s' j'
 
   -- a job joins the end of its object's line
   pub record Parks (s : ShardState J) (j : J) (op : Op) (s' : ShardState J) : Type 0 where

@@ -16,7 +16,7 @@ use Rattle.jt_base.specs.Objects.{object_of}
 use Rattle.jt_laws.specs.Entries.{of_object}
 use Rattle.jt_laws.specs.Objects.{AreLawful, Asked}
 use Rattle.jt_histories.specs.Jobs.{last_entry}
-use Rattle.jt_objects.specs.States.{State, left_by}
+use Rattle.jt_objects.specs.States.{ObjectState, left_by}
 use Rattle.jt_objects.specs.Needs.{state_of}
 use Rattle.jt_shard.specs.declared.post.Post.{Post}
 use Rattle.jt_shard.specs.declared.spare.Spare.{Spare}
@@ -104,7 +104,7 @@ module _ {J : Type 0} where
     pub before : Post J
     pub after : Post J
     pub there : post_at posts o ≡ Some before
-    pub law : Asked State (left_by (object_of task op)) task op (state_of before.state) answer (state_of after.state)
+    pub law : Asked ObjectState (left_by (object_of task op)) task op (state_of before.state) answer (state_of after.state)
     pub stays : answer ≡ NotYet → after ≡ before
     pub waiting : after.waiting ≡ before.waiting
     pub is : more ≡ with_post posts o after

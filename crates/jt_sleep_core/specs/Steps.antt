@@ -50,19 +50,19 @@ IsInRange sizes (Retreat worker) = IsWorker sizes worker
 IsInRange sizes (SelfPost worker) = IsWorker sizes worker
 
 -- the list begins with the number
-abbrev pub IsFirst : ℕ → List ℕ → Type 0
-IsFirst number [] = ⊥
-IsFirst number (first ∷ rest) = number ≡ first
+abbrev pub BeginsWith : ℕ → List ℕ → Type 0
+BeginsWith number [] = ⊥
+BeginsWith number (first ∷ rest) = number ≡ first
 
 -- the step may be made by a seat in this place
 abbrev pub IsPermitted : Step → Place → Type 0
 IsPermitted (Raise seat queue) Free = Unit {0}
 IsPermitted (Lower seat queue) Free = Unit {0}
-IsPermitted (Look seat worker) (Passing for_queue left None) = IsFirst worker left
+IsPermitted (Look seat worker) (Passing for_queue left None) = BeginsWith worker left
 IsPermitted (Wake seat worker) (Passing for_queue left (Some seen)) = worker ≡ seen
 IsPermitted (Post seat worker) (Posting for_queue left woken) = worker ≡ woken
 IsPermitted (Declare worker) Free = Unit {0}
-IsPermitted (Check worker queue) (Declared left) = IsFirst queue left
+IsPermitted (Check worker queue) (Declared left) = BeginsWith queue left
 IsPermitted (TakeToken worker) Past = Unit {0}
 IsPermitted (Retreat worker) Found = Unit {0}
 IsPermitted (SelfPost worker) Past = Unit {0}
@@ -163,12 +163,12 @@ place_after sizes (TakeToken worker) found place = if found == 0 then place else
 place_after sizes (Retreat worker) found place = Free
 place_after sizes (SelfPost worker) found place = place
 
-pub record Outcome : Type 0 where
+pub record Effect : Type 0 where
   pub state : SleepState
   pub gives : ℕ
 
 -- one word and the seat's own place change, and nothing else
-abbrev pub step_of : SleepState → Step → Outcome
+abbrev pub step_of : SleepState → Step → Effect
 step_of s step =
     let after = written s step in
     let place = place_after s.sizes step (found_by s step) (place_at s (seat_of step)) in

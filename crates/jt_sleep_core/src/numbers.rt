@@ -1,7 +1,7 @@
 //! A short list of numbers.
 ghost use Rattle.std.specs.Prelude.{◌≡◌, ◌+◌, ◌-◌, ◌<◌, ◌≤◌, ◌↔◌, [], ◌∷◌, ◌++◌, length, position, ◌==◌, IsTrue};
 ghost use Rattle.std.specs.List.{range_with_len};
-ghost use Rattle.jt_sleep_core.specs.Steps.{IsFirst, without};
+ghost use Rattle.jt_sleep_core.specs.Steps.{BeginsWith, without};
 
 use arrayvec::ArrayVec;
 use std::marker::Model;
@@ -49,7 +49,7 @@ impl Numbers {
 
     /// Whether the list begins with the number.
     pub(crate) fn begins_with(&self, number: u32) -> bool
-        ensures { IsTrue result ↔ IsFirst number self.now }
+        ensures { IsTrue result ↔ BeginsWith number self.now }
     {
         match self.as_slice() {
             [] => false,

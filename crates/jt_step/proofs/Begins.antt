@@ -14,14 +14,14 @@ use Rattle.jt_step.specs.declared.frame.Loop.{Loop}
 use Rattle.jt_step.specs.declared.frame.Loop.TheVariants as loop
 use Rattle.jt_step.specs.declared.evaluator.Evaluator.{Evaluator}
 use Rattle.jt_step.specs.declared.mode.Mode.TheVariants as mode
-use Rattle.jt_meaning.specs.State.{State, Step, Faulted, turn_with, enter_with}
+use Rattle.jt_meaning.specs.State.{State, TaskPart, Faulted, turn_with, enter_with}
 use Rattle.jt_meaning.specs.Meaning.{ended, go, left, looped, call, variables_of, whole}
 use Rattle.jt_step.specs.Stack.{refusal, rests, Follows, through, resume, does, later_of, again, state_of, begins, has_body, TakesTurn}
 use Rattle.jt_step.specs.Task.{body_in, turned}
 use Rattle.jt_step.specs.Agrees.{goes}
 use Rattle.jt_step.proofs.Resumes.{through_push}
 
-turn_goes : (t : ℕ) (k : Step) (s : State) → nat_lt 0 t ≡ true → turn_with t k s ≡ k (record s { turns = t - 1 })
+turn_goes : (t : ℕ) (k : TaskPart) (s : State) → nat_lt 0 t ≡ true → turn_with t k s ≡ k (record s { turns = t - 1 })
 turn_goes zero k s h = cc
 turn_goes (suc t) k s h = ap (λ t. k (record s { turns = t })) (omega arith)
 
@@ -29,7 +29,7 @@ one_less : (t : ℕ) → nat_lt 0 t ≡ true → t - 1 + 1 ≡ t
 one_less zero h = cc
 one_less (suc t) h = omega arith
 
-enter_goes : (t : ℕ) (x : Bool) (k : Step) (s : State) → (nat_lt 0 t && x) ≡ true → enter_with t x k s ≡ k (record s { turns = t - 1; open_calls = s.open_calls + 1 })
+enter_goes : (t : ℕ) (x : Bool) (k : TaskPart) (s : State) → (nat_lt 0 t && x) ≡ true → enter_with t x k s ≡ k (record s { turns = t - 1; open_calls = s.open_calls + 1 })
 enter_goes zero x k s h = cc
 enter_goes (suc t) false k s h = let e = lt-ltb 0 (suc t) (omega arith) in let n : false ≡ true = ap (λ y. y && false) (sym e) ∙ h in cc
 enter_goes (suc t) true k s h = ap (λ t. k (record s { turns = t; open_calls = s.open_calls + 1 })) (omega arith)
@@ -44,7 +44,7 @@ both_right false b h = cc
 
 module _ (program : ProgramPlan) where
   -- what a loop's turn does
-  abbrev does_turn : Loop → Step
+  abbrev does_turn : Loop → TaskPart
   does_turn l s = looped (go program (later_of l)) (does program (plan_of (body_in l).now) (turned l s))
 
   again_turns : (l : Loop) (s : State) → nat_lt 0 s.turns ≡ true → again program l s ≡ does_turn l (record s { turns = s.turns - 1 })
@@ -65,7 +65,7 @@ module _ (program : ProgramPlan) where
   call_goes : (o : Option BodyPlan) (b : BodyPlan) (vs : List Value) (s : State) → o ≡ Some b → (has_body o && (nat_lt 0 s.turns && nat_lt s.open_calls most_calls)) ≡ true → call (go program) o vs s ≡ left s.variables s.open_calls (does program b.code (record s { variables = variables_of b vs; turns = s.turns - 1; open_calls = s.open_calls + 1 }))
   call_goes o b vs s e h =
       let limits = both_right (has_body o) _ h in
-      let k : Step = λ s2. left s.variables s.open_calls (go program (whole b.code) (record s2 { variables = variables_of b vs })) in
+      let k : TaskPart = λ s2. left s.variables s.open_calls (go program (whole b.code) (record s2 { variables = variables_of b vs })) in
       ap (λ o. call (go program) o vs s) e
       ∙ enter_goes s.turns (nat_lt s.open_calls most_calls) k s limits
       ∙ ap (left s.variables s.open_calls) (goes program (whole b.code) (record s { variables = variables_of b vs; turns = s.turns - 1; open_calls = s.open_calls + 1 }))
@@ -81,7 +81,7 @@ module _ (program : ProgramPlan) where
     turns = ap (λ n. n + 1) u ∙ one_less m.turns (both_left (nat_lt 0 m.turns) _ (both_right (has_body (slice_get program.functions f)) _ h));
   }
 
-  abbrev body_of : BodyPlan → List Value → State → Step
+  abbrev body_of : BodyPlan → List Value → State → TaskPart
   body_of b vs s s2 = left s.variables s.open_calls (go program (whole b.code) (record s2 { variables = variables_of b vs }))
 
   call_refused : (o : Option BodyPlan) (vs : List Value) (s : State) (t : ℕ) → t ≡ s.turns → (has_body o && (nat_lt 0 t && nat_lt s.open_calls most_calls)) ≡ false → call (go program) o vs s ≡ Faulted (refusal o t) s
@@ -98,7 +98,7 @@ module _ (program : ProgramPlan) where
     turns = refl;
   }
 
-  turn_refused : (t : ℕ) (k : Step) (s : State) → nat_lt 0 t ≡ false → turn_with t k s ≡ Faulted TurnLimit s
+  turn_refused : (t : ℕ) (k : TaskPart) (s : State) → nat_lt 0 t ≡ false → turn_with t k s ≡ Faulted TurnLimit s
   turn_refused zero k s h = refl
   turn_refused (suc t) k s h = let e = lt-ltb 0 (suc t) (omega arith) in let n : true ≡ false = sym e ∙ h in cc
 

@@ -13,7 +13,7 @@ use Rattle.jt_step.specs.declared.frame.Frame.{Frame}
 use Rattle.jt_step.specs.declared.evaluator.Evaluator.{Evaluator}
 use Rattle.jt_step.specs.declared.mode.Mode.{Mode}
 use Rattle.jt_step.specs.declared.mode.Mode.TheVariants as mode
-use Rattle.jt_meaning.specs.State.{State, Out, Step, Gave, Returned, Broke, Continued, Faulted, Asks, Unfit, bind}
+use Rattle.jt_meaning.specs.State.{State, Out, TaskPart, Gave, Returned, Broke, Continued, Faulted, Asks, Unfit, bind}
 use Rattle.jt_meaning.specs.Meaning.{go, run_all, run_arguments}
 use Rattle.jt_step.specs.Moves.{Does}
 use Rattle.jt_step.specs.Stack.{after, resume, does, state_of, weight, plans_weight, frame_weight, frames_weight, Follows, Hands}
@@ -21,7 +21,7 @@ use Rattle.jt_step.proofs.Weights.{weight_push, frame_least}
 use Rattle.jt_step.proofs.Resumes.{through_push}
 
 -- what follows gives the value again
-gives_itself : (o : Out) (k : Value → Step) → ((v : Value) (s : State) → k v s ≡ Gave v s) → bind o k ≡ o
+gives_itself : (o : Out) (k : Value → TaskPart) → ((v : Value) (s : State) → k v s ≡ Gave v s) → bind o k ≡ o
 gives_itself (Gave v s) k p = p v s
 gives_itself (Returned v s) k p = refl
 gives_itself (Broke s) k p = refl
@@ -32,7 +32,7 @@ gives_itself Unfit k p = refl
 
 module _ (program : ProgramPlan) where
   -- a frame is pushed, and a part begins
-  pub pushes : (m m' : Evaluator) (f : Frame) (e : Bor Code) (step : Step) (most : ℕ) → m'.frames.items ≡ m.frames.items ++ f ∷ [] → ((rs : List Reply) → state_of m' rs ≡ state_of m rs) → m'.turns ≡ m.turns → ((s : State) → after program f (does program (plan_of e.now) s) ≡ step s) → weight (plan_of e.now) + frame_weight f < most → Does program m step most m' (mode.Eval e)
+  pub pushes : (m m' : Evaluator) (f : Frame) (e : Bor Code) (step : TaskPart) (most : ℕ) → m'.frames.items ≡ m.frames.items ++ f ∷ [] → ((rs : List Reply) → state_of m' rs ≡ state_of m rs) → m'.turns ≡ m.turns → ((s : State) → after program f (does program (plan_of e.now) s) ≡ step s) → weight (plan_of e.now) + frame_weight f < most → Does program m step most m' (mode.Eval e)
   pushes m m' f e step most p st t h w = record {
     same = λ rs. rw (p, through_push, st rs, h (state_of m rs));
     less = rw (p, weight_push) (omega arith);
@@ -40,7 +40,7 @@ module _ (program : ProgramPlan) where
   }
 
   -- a part begins by a move that does what the part does
-  pub begins_by : (m m' : Evaluator) (md : Mode) (e : Bor Code) (step : Step) (most : ℕ) → Does program m step most m' md → ((s : State) → step s ≡ does program (plan_of e.now) s) → most ≤ weight (plan_of e.now) → Follows program m (mode.Eval e) m' md
+  pub begins_by : (m m' : Evaluator) (md : Mode) (e : Bor Code) (step : TaskPart) (most : ℕ) → Does program m step most m' md → ((s : State) → step s ≡ does program (plan_of e.now) s) → most ≤ weight (plan_of e.now) → Follows program m (mode.Eval e) m' md
   begins_by m m' md e step most h p w = record {
     same = λ rs. h.same rs ∙ ap (resume program m.frames.items) (p (state_of m rs));
     less = omega (arith, h.less);
@@ -48,7 +48,7 @@ module _ (program : ProgramPlan) where
   }
 
   -- a frame has the end of its part by a move that does what the frame does then
-  pub gives_by : (m m' : Evaluator) (md : Mode) (f : Frame) (o step : Step) (most : ℕ) → Does program m step most m' md → ((s : State) → step s ≡ after program f (o s)) → most ≤ 1 + frame_weight f → Hands program m f o m' md
+  pub gives_by : (m m' : Evaluator) (md : Mode) (f : Frame) (o step : TaskPart) (most : ℕ) → Does program m step most m' md → ((s : State) → step s ≡ after program f (o s)) → most ≤ 1 + frame_weight f → Hands program m f o m' md
   gives_by m m' md f o step most h p w = record {
     same = λ rs. h.same rs ∙ ap (resume program m.frames.items) (p (state_of m rs));
     less = omega (arith, h.less);
@@ -56,7 +56,7 @@ module _ (program : ProgramPlan) where
   }
 
   -- a frame gives a value at once
-  pub gives_value : (m : Evaluator) (f : Frame) (o : Step) (v : Value) → ((s : State) → Gave v s ≡ after program f (o s)) → Hands program m f o m (mode.Gave v)
+  pub gives_value : (m : Evaluator) (f : Frame) (o : TaskPart) (v : Value) → ((s : State) → Gave v s ≡ after program f (o s)) → Hands program m f o m (mode.Gave v)
   gives_value m f o v p = record {
     same = λ rs. ap (resume program m.frames.items) (p (state_of m rs));
     less = omega (arith, frame_least f);
@@ -64,7 +64,7 @@ module _ (program : ProgramPlan) where
   }
 
   -- a frame fails at once
-  pub gives_fault : (m : Evaluator) (f : Frame) (o : Step) (x : Fault) → ((s : State) → Faulted x s ≡ after program f (o s)) → Hands program m f o m (mode.Faulted x)
+  pub gives_fault : (m : Evaluator) (f : Frame) (o : TaskPart) (x : Fault) → ((s : State) → Faulted x s ≡ after program f (o s)) → Hands program m f o m (mode.Faulted x)
   gives_fault m f o x p = record {
     same = λ rs. ap (resume program m.frames.items) (p (state_of m rs));
     less = omega (arith, frame_least f);
@@ -72,7 +72,7 @@ module _ (program : ProgramPlan) where
   }
 
   -- a move of an equal evaluator does what another step does here
-  pub does_from : (m0 m m' : Evaluator) (md : Mode) (step step' : Step) (most most' : ℕ) → m ≡ m0 → Does program m step most m' md → ((rs : List Reply) → step (state_of m0 rs) ≡ step' (state_of m0 rs)) → most ≤ most' → Does program m0 step' most' m' md
+  pub does_from : (m0 m m' : Evaluator) (md : Mode) (step step' : TaskPart) (most most' : ℕ) → m ≡ m0 → Does program m step most m' md → ((rs : List Reply) → step (state_of m0 rs) ≡ step' (state_of m0 rs)) → most ≤ most' → Does program m0 step' most' m' md
   does_from m0 m m' md step step' most most' k h p w = record {
     same = λ rs. h.same rs ∙ ap (λ (n : Evaluator). resume program n.frames.items (step (state_of n rs))) k ∙ ap (resume program m0.frames.items) (p rs);
     less = omega (arith, h.less, ap (λ (n : Evaluator). frames_weight n.frames.items) k);
@@ -80,18 +80,18 @@ module _ (program : ProgramPlan) where
   }
 
   -- a frame is pushed in an equal evaluator
-  pub pushes_from : (m0 m m' : Evaluator) (f : Frame) (e : Bor Code) (step step' : Step) (most most' : ℕ) → m ≡ m0 → m'.frames.items ≡ m.frames.items ++ f ∷ [] → ((rs : List Reply) → state_of m' rs ≡ state_of m rs) → m'.turns ≡ m.turns → ((s : State) → after program f (does program (plan_of e.now) s) ≡ step s) → weight (plan_of e.now) + frame_weight f < most → ((rs : List Reply) → step (state_of m0 rs) ≡ step' (state_of m0 rs)) → most ≤ most' → Does program m0 step' most' m' (mode.Eval e)
+  pub pushes_from : (m0 m m' : Evaluator) (f : Frame) (e : Bor Code) (step step' : TaskPart) (most most' : ℕ) → m ≡ m0 → m'.frames.items ≡ m.frames.items ++ f ∷ [] → ((rs : List Reply) → state_of m' rs ≡ state_of m rs) → m'.turns ≡ m.turns → ((s : State) → after program f (does program (plan_of e.now) s) ≡ step s) → weight (plan_of e.now) + frame_weight f < most → ((rs : List Reply) → step (state_of m0 rs) ≡ step' (state_of m0 rs)) → most ≤ most' → Does program m0 step' most' m' (mode.Eval e)
   pushes_from m0 m m' f e step step' most most' k p st t h w q l = does_from m0 m m' (mode.Eval e) step step' most most' k (pushes m m' f e step most p st t h w) q l
 
   -- a value, or a fault, is known at once
-  pub does_value : (m : Evaluator) (v : Value) (step : Step) (most : ℕ) → ((rs : List Reply) → Gave v (state_of m rs) ≡ step (state_of m rs)) → 2 ≤ most → Does program m step most m (mode.Gave v)
+  pub does_value : (m : Evaluator) (v : Value) (step : TaskPart) (most : ℕ) → ((rs : List Reply) → Gave v (state_of m rs) ≡ step (state_of m rs)) → 2 ≤ most → Does program m step most m (mode.Gave v)
   does_value m v step most p w = record {
     same = λ rs. ap (resume program m.frames.items) (p rs);
     less = omega arith;
     turns = refl;
   }
 
-  pub does_fault : (m : Evaluator) (x : Fault) (step : Step) (most : ℕ) → ((rs : List Reply) → Faulted x (state_of m rs) ≡ step (state_of m rs)) → 2 ≤ most → Does program m step most m (mode.Faulted x)
+  pub does_fault : (m : Evaluator) (x : Fault) (step : TaskPart) (most : ℕ) → ((rs : List Reply) → Faulted x (state_of m rs) ≡ step (state_of m rs)) → 2 ≤ most → Does program m step most m (mode.Faulted x)
   does_fault m x step most p w = record {
     same = λ rs. ap (resume program m.frames.items) (p rs);
     less = omega arith;

@@ -22,7 +22,7 @@ use Rattle.jt_step.specs.declared.mode.Mode.{Mode}
 use Rattle.jt_step.specs.declared.mode.Mode.TheVariants as mode
 use Rattle.jt_meaning.specs.declared.start.Start.{Start}
 use Rattle.jt_step.specs.declared.task.Advance.{Advance}
-use Rattle.jt_meaning.specs.State.{Out, State, Step, Asks, turns_of, turn_with, enter_with}
+use Rattle.jt_meaning.specs.State.{Out, State, TaskPart, Asks, turns_of, turn_with, enter_with}
 use Rattle.jt_meaning.specs.Values.{operated, unary_of, compared_by, shown, shown_with}
 use Rattle.jt_meaning.specs.Meaning.{ended, gives, go, looped, call, variables_of, unless_failed, wait_all, whole}
 use Rattle.jt_meaning.specs.Next.{next_of, over_with}
@@ -34,11 +34,11 @@ use Rattle.jt_step.specs.Falls.{bind_falls, looped_falls, left_falls, gives_fall
 
 -- ---- turns that are left
 
-turn_less : (t : ℕ) (k : Step) (s : State) → ((s : State) → turns_of (k s) ≤ s.turns) → nat_lt 0 t ≡ true → turns_of (turn_with t k s) < t
+turn_less : (t : ℕ) (k : TaskPart) (s : State) → ((s : State) → turns_of (k s) ≤ s.turns) → nat_lt 0 t ≡ true → turns_of (turn_with t k s) < t
 turn_less zero k s f h = absurd (cc)
 turn_less (suc t) k s f h = omega (arith, f (record s { turns = t }))
 
-enter_less : (t : ℕ) (x : Bool) (k : Step) (s : State) → ((s : State) → turns_of (k s) ≤ s.turns) → (nat_lt 0 t && x) ≡ true → turns_of (enter_with t x k s) < t
+enter_less : (t : ℕ) (x : Bool) (k : TaskPart) (s : State) → ((s : State) → turns_of (k s) ≤ s.turns) → (nat_lt 0 t && x) ≡ true → turns_of (enter_with t x k s) < t
 enter_less zero x k s f h = absurd (cc)
 enter_less (suc t) true k s f h = omega (arith, f (record s { turns = t; open_calls = s.open_calls + 1 }))
 enter_less (suc t) false k s f h = both_false (nat_lt 0 (suc t)) h
@@ -60,7 +60,7 @@ module _ (program : ProgramPlan) where
   turned_falls (loop.Range first count b i last) s = does_falls (plan_of b.now) _
 
   -- what a loop's turn does
-  abbrev turn_does : Loop → Step
+  abbrev turn_does : Loop → TaskPart
   turn_does l s = looped (go program (later_of l)) (does program (plan_of (body_in l).now) (turned l s))
 
   turn_falls : (l : Loop) (s : State) → turns_of (turn_does l s) ≤ s.turns

@@ -10,14 +10,14 @@ use Rattle.jt_program.specs.declared.code.Callee.{Callee}
 use Rattle.jt_program.specs.declared.code.Callee.TheVariants as callee
 use Rattle.jt_program.specs.Plan.{Plan, Plans, Operands, Comparisons, Choices, Pieces, BodyPlan, ProgramPlan}
 use Rattle.jt_program.specs.Plan as plan
-use Rattle.jt_meaning.specs.State.{State, Out, Gave, Returned, Broke, Continued, Faulted, Asks, Unfit, Step, turns_of, bind, turn_with, enter_with, renew, renew_with}
+use Rattle.jt_meaning.specs.State.{State, Out, Gave, Returned, Broke, Continued, Faulted, Asks, Unfit, TaskPart, turns_of, bind, turn_with, enter_with, renew, renew_with}
 use Rattle.jt_meaning.specs.Values.{operated, compared_by, shown, shown_with, text_of}
 use Rattle.jt_meaning.specs.Meaning.{gives, test, proceed, holds, looped, left, variables_of, awaiting, synced, Later, whole, range, either, bounds, turns_from, call, call_of, run, run_operands, run_comparisons, run_connection, run_choices, run_all, run_arguments, run_pieces, later, meaning, go}
 use Rattle.jt_step.specs.Falls.{TurnsFall, gives_falls, run_falls, meaning_falls}
 
 -- ---- what parts are put together by
 
-pub bind_agrees : (o o' : Out) (k k' : Value → Step) (n : ℕ) → o ≡ o' → turns_of o ≤ n → ((v : Value) (s : State) → s.turns ≤ n → k v s ≡ k' v s) → bind o k ≡ bind o' k'
+pub bind_agrees : (o o' : Out) (k k' : Value → TaskPart) (n : ℕ) → o ≡ o' → turns_of o ≤ n → ((v : Value) (s : State) → s.turns ≤ n → k v s ≡ k' v s) → bind o k ≡ bind o' k'
 bind_agrees o o' k k' n e h f = same o h ∙ ap (λ o. bind o k') e
   where
     same : (o : Out) → turns_of o ≤ n → bind o k ≡ bind o k'
@@ -29,7 +29,7 @@ bind_agrees o o' k k' n e h f = same o h ∙ ap (λ o. bind o k') e
     same (Asks op start s) h = refl
     same Unfit h = refl
 
-pub looped_agrees : (o o' : Out) (k k' : Step) (n : ℕ) → o ≡ o' → turns_of o ≤ n → ((s : State) → s.turns ≤ n → k s ≡ k' s) → looped k o ≡ looped k' o'
+pub looped_agrees : (o o' : Out) (k k' : TaskPart) (n : ℕ) → o ≡ o' → turns_of o ≤ n → ((s : State) → s.turns ≤ n → k s ≡ k' s) → looped k o ≡ looped k' o'
 looped_agrees o o' k k' n e h f = same o h ∙ ap (looped k') e
   where
     same : (o : Out) → turns_of o ≤ n → looped k o ≡ looped k' o
@@ -41,7 +41,7 @@ looped_agrees o o' k k' n e h f = same o h ∙ ap (looped k') e
     same (Asks op start s) h = refl
     same Unfit h = refl
 
-pub test_agrees : (v : Value) (a b a' b' : Step) (s : State) → a s ≡ a' s → b s ≡ b' s → test v a b s ≡ test v a' b' s
+pub test_agrees : (v : Value) (a b a' b' : TaskPart) (s : State) → a s ≡ a' s → b s ≡ b' s → test v a b s ≡ test v a' b' s
 test_agrees (Flag true) a b a' b' s f g = f
 test_agrees (Flag false) a b a' b' s f g = g
 test_agrees (Int n) a b a' b' s f g = refl
@@ -49,28 +49,28 @@ test_agrees Nothing a b a' b' s f g = refl
 test_agrees (Task path) a b a' b' s f g = refl
 test_agrees (Object kind name) a b a' b' s f g = refl
 
-pub proceed_agrees : (c : Connective) (v : Value) (k k' : Step) (s : State) → k s ≡ k' s → proceed c v k s ≡ proceed c v k' s
+pub proceed_agrees : (c : Connective) (v : Value) (k k' : TaskPart) (s : State) → k s ≡ k' s → proceed c v k s ≡ proceed c v k' s
 proceed_agrees connective.And v k k' s f = test_agrees v k _ k' _ s f refl
 proceed_agrees connective.Or v k k' s f = test_agrees v _ k _ k' s refl f
 
-pub holds_agrees : (o : Option Bool) (k k' : Step) (s : State) → k s ≡ k' s → holds o k s ≡ holds o k' s
+pub holds_agrees : (o : Option Bool) (k k' : TaskPart) (s : State) → k s ≡ k' s → holds o k s ≡ holds o k' s
 holds_agrees (Some true) k k' s f = f
 holds_agrees (Some false) k k' s f = refl
 holds_agrees None k k' s f = refl
 
-pub either_agrees : (x : Bool) (a b a' b' : Step) (s : State) → a s ≡ a' s → b s ≡ b' s → either x a b s ≡ either x a' b' s
+pub either_agrees : (x : Bool) (a b a' b' : TaskPart) (s : State) → a s ≡ a' s → b s ≡ b' s → either x a b s ≡ either x a' b' s
 either_agrees true a b a' b' s f g = f
 either_agrees false a b a' b' s f g = g
 
-pub bounds_agrees : (k k' : ℤ → ℤ → Step) (v w : Value) (s : State) → ((a b : ℤ) → k a b s ≡ k' a b s) → bounds k v w s ≡ bounds k' v w s
+pub bounds_agrees : (k k' : ℤ → ℤ → TaskPart) (v w : Value) (s : State) → ((a b : ℤ) → k a b s ≡ k' a b s) → bounds k v w s ≡ bounds k' v w s
 bounds_agrees k k' (Int a) (Int b) s f = f a b
 bounds_agrees k k' v w s f = refl
 
-pub turn_agrees : (t n : ℕ) (k k' : Step) (s : State) → t < suc n → ((s : State) → s.turns < n → k s ≡ k' s) → turn_with t k s ≡ turn_with t k' s
+pub turn_agrees : (t n : ℕ) (k k' : TaskPart) (s : State) → t < suc n → ((s : State) → s.turns < n → k s ≡ k' s) → turn_with t k s ≡ turn_with t k' s
 turn_agrees zero n k k' s h f = refl
 turn_agrees (suc t) n k k' s h f = f (record s { turns = t }) (omega arith)
 
-pub enter_agrees : (t n : ℕ) (free : Bool) (k k' : Step) (s : State) → t < suc n → ((s : State) → s.turns < n → k s ≡ k' s) → enter_with t free k s ≡ enter_with t free k' s
+pub enter_agrees : (t n : ℕ) (free : Bool) (k k' : TaskPart) (s : State) → t < suc n → ((s : State) → s.turns < n → k s ≡ k' s) → enter_with t free k s ≡ enter_with t free k' s
 enter_agrees zero n free k k' s h f = refl
 enter_agrees (suc t) n false k k' s h f = refl
 enter_agrees (suc t) n true k k' s h f = f (record s { turns = t; open_calls = s.open_calls + 1 }) (omega arith)
@@ -78,21 +78,21 @@ enter_agrees (suc t) n true k k' s h f = f (record s { turns = t; open_calls = s
 -- ---- trees
 
 -- two ways to do calls and further turns that do the same where fewer than n turns are left
-pub record Agree (n : ℕ) (lower lower' : Later → Step) : Type 0 where
+pub record Agree (n : ℕ) (lower lower' : Later → TaskPart) : Type 0 where
   pub by : (l : Later) (s : State) → s.turns < n → lower l s ≡ lower' l s
 
-call_agrees : (n : ℕ) (lower lower' : Later → Step) (o : Option BodyPlan) (vs : List Value) (s : State) → Agree n lower lower' → s.turns < suc n → call lower o vs s ≡ call lower' o vs s
+call_agrees : (n : ℕ) (lower lower' : Later → TaskPart) (o : Option BodyPlan) (vs : List Value) (s : State) → Agree n lower lower' → s.turns < suc n → call lower o vs s ≡ call lower' o vs s
 call_agrees n lower lower' None vs s a h = refl
 call_agrees n lower lower' (Some b) vs s a h =
     enter_agrees s.turns n (nat_lt s.open_calls most_calls) _ _ s h (λ s2 h2. ap (left s.variables s.open_calls) (a.by (whole b.code) (record s2 { variables = variables_of b vs }) h2))
 
-from_agrees : (n : ℕ) (lower lower' : Later → Step) (first count : ℕ) (b : Plan) (body body' : Step) → Agree n lower lower' → ((s : State) → turns_of (body s) ≤ s.turns) → ((s : State) → s.turns < suc n → body s ≡ body' s) → (i last : ℤ) (s : State) → s.turns < suc n → turns_from lower first count b body i last s ≡ turns_from lower' first count b body' i last s
+from_agrees : (n : ℕ) (lower lower' : Later → TaskPart) (first count : ℕ) (b : Plan) (body body' : TaskPart) → Agree n lower lower' → ((s : State) → turns_of (body s) ≤ s.turns) → ((s : State) → s.turns < suc n → body s ≡ body' s) → (i last : ℤ) (s : State) → s.turns < suc n → turns_from lower first count b body i last s ≡ turns_from lower' first count b body' i last s
 from_agrees n lower lower' first count b body body' a g c i last s h =
     either_agrees (int_le i last) _ _ _ _ s
     (turn_agrees s.turns n _ _ s h (λ s g2. looped_agrees _ _ _ _ s.turns (c (renew_with first count (Int i) s) (omega arith)) (g (renew_with first count (Int i) s))
     (λ s g3. a.by (range first count b (i +ℤ pos 1) last) s (omega arith)))) refl
 
-module _ (program : ProgramPlan) (n : ℕ) (lower lower' : Later → Step) (f : TurnsFall lower) (a : Agree n lower lower') where
+module _ (program : ProgramPlan) (n : ℕ) (lower lower' : Later → TaskPart) (f : TurnsFall lower) (a : Agree n lower lower') where
   falls : (e : Plan) (s : State) → turns_of (run program lower e s) ≤ s.turns
   falls = run_falls program lower f
 
@@ -143,7 +143,7 @@ module _ (program : ProgramPlan) (n : ℕ) (lower lower' : Later → Step) (f : 
     connection_agrees c v (plan.plan e es) s h =
         proceed_agrees c v _ _ s (bind_agrees _ _ _ _ s.turns (run_agrees e s h) (falls e s) (λ w s g. connection_agrees c w es s (omega arith)))
 
-    choices_agrees : (cs : Choices) (k k' : Step) → ((s : State) → s.turns < suc n → k s ≡ k' s) → (s : State) → s.turns < suc n → run_choices program lower cs k s ≡ run_choices program lower' cs k' s
+    choices_agrees : (cs : Choices) (k k' : TaskPart) → ((s : State) → s.turns < suc n → k s ≡ k' s) → (s : State) → s.turns < suc n → run_choices program lower cs k s ≡ run_choices program lower' cs k' s
     choices_agrees plan.no_choices k k' q s h = q s h
     choices_agrees (plan.choice c e cs) k k' q s h =
         bind_agrees _ _ _ _ s.turns (run_agrees c s h) (falls c s) (λ v s g. test_agrees v _ _ _ _ s (run_agrees e s (omega arith)) (choices_agrees cs k k' q s (omega arith)))

@@ -15,9 +15,9 @@ use Rattle.jt_program.specs.Plan as plan
 
 -- ---- trees of labels
 
-pub data Tree (L : Type 0) : Type 0 where
-  tip : Tree L
-  node : L → Tree L → Tree L → Tree L
+pub data LabelTree (L : Type 0) : Type 0 where
+  tip : LabelTree L
+  node : L → LabelTree L → LabelTree L → LabelTree L
 
 abbrev pub head : Gv → Gv
 head gnil = gnil
@@ -29,24 +29,24 @@ tail gnil = gnil
 tail (gnum n) = gnil
 tail (gcons a b) = b
 
-abbrev pub IsPair : Gv → Type 0
-IsPair gnil = ⊥
-IsPair (gnum n) = ⊥
-IsPair (gcons a b) = Unit {0}
+abbrev pub IsCons : Gv → Type 0
+IsCons gnil = ⊥
+IsCons (gnum n) = ⊥
+IsCons (gcons a b) = Unit {0}
 
 module _ {L : Type 0} (c : Coded L) where
-  abbrev pub code_tree : Tree L → Gv
+  abbrev pub code_tree : LabelTree L → Gv
   code_tree tip = gnil
   code_tree (node l a b) = gcons (c.code l) (gcons (code_tree a) (code_tree b))
 
-  pub tree_inj : (t u : Tree L) → code_tree t ≡ code_tree u → t ≡ u
+  pub tree_inj : (t u : LabelTree L) → code_tree t ≡ code_tree u → t ≡ u
   tree_inj tip tip e = refl
   tree_inj (node l a b) (node m d f) e =
       λ i. node (c.inj l m (ap head e) i) (tree_inj a d (ap (λ g. head (tail g)) e) i) (tree_inj b f (ap (λ g. tail (tail g)) e) i)
-  tree_inj tip (node m d f) e = absurd (subst IsPair (sym e) tt)
-  tree_inj (node l a b) tip e = absurd (subst IsPair e tt)
+  tree_inj tip (node m d f) e = absurd (subst IsCons (sym e) tt)
+  tree_inj (node l a b) tip e = absurd (subst IsCons e tt)
 
-  abbrev pub coded_tree : Coded (Tree L)
+  abbrev pub coded_tree : Coded (LabelTree L)
   coded_tree = record { code = code_tree; inj = tree_inj }
 
 -- ---- the parts of a program
@@ -83,7 +83,7 @@ pub data Label : Type 0 where
   part_label : Label
 
 abbrev mutual
-  pub plan_tree : Plan → Tree Label
+  pub plan_tree : Plan → LabelTree Label
   plan_tree (plan.literal l) = node (literal_label l) tip tip
   plan_tree (plan.variable n) = node (variable_label n) tip tip
   plan_tree (plan.constant n) = node (constant_label n) tip tip
@@ -106,29 +106,29 @@ abbrev mutual
   plan_tree plan.break = node break_label tip tip
   plan_tree plan.continue = node continue_label tip tip
 
-  pub plans_tree : Plans → Tree Label
+  pub plans_tree : Plans → LabelTree Label
   plans_tree plan.no_plans = tip
   plans_tree (plan.plan p q) = node plan_label (plan_tree p) (plans_tree q)
 
-  pub operands_tree : Operands → Tree Label
+  pub operands_tree : Operands → LabelTree Label
   operands_tree plan.no_operands = tip
   operands_tree (plan.operand o p q) = node (operand_label o) (plan_tree p) (operands_tree q)
 
-  pub comparisons_tree : Comparisons → Tree Label
+  pub comparisons_tree : Comparisons → LabelTree Label
   comparisons_tree plan.no_comparisons = tip
   comparisons_tree (plan.compared o p q) = node (compared_label o) (plan_tree p) (comparisons_tree q)
 
-  pub choices_tree : Choices → Tree Label
+  pub choices_tree : Choices → LabelTree Label
   choices_tree plan.no_choices = tip
   choices_tree (plan.choice p q r) = node choice_label (plan_tree p) (node part_label (plan_tree q) (choices_tree r))
 
-  pub pieces_tree : Pieces → Tree Label
+  pub pieces_tree : Pieces → LabelTree Label
   pieces_tree plan.no_pieces = tip
   pieces_tree (plan.value_piece p q) = node value_piece_label (plan_tree p) (pieces_tree q)
   pieces_tree (plan.text_piece t p) = node (text_piece_label t) (pieces_tree p) tip
 
 abbrev mutual
-  pub plan_in : Tree Label → Plan
+  pub plan_in : LabelTree Label → Plan
   plan_in (node (literal_label l) t1 t2) = plan.literal l
   plan_in (node (variable_label n) t1 t2) = plan.variable n
   plan_in (node (constant_label n) t1 t2) = plan.constant n
@@ -151,23 +151,23 @@ abbrev mutual
   plan_in (node continue_label t1 t2) = plan.continue
   plan_in t = plan.break
 
-  pub plans_in : Tree Label → Plans
+  pub plans_in : LabelTree Label → Plans
   plans_in (node plan_label p q) = plan.plan (plan_in p) (plans_in q)
   plans_in t = plan.no_plans
 
-  pub operands_in : Tree Label → Operands
+  pub operands_in : LabelTree Label → Operands
   operands_in (node (operand_label o) p q) = plan.operand o (plan_in p) (operands_in q)
   operands_in t = plan.no_operands
 
-  pub comparisons_in : Tree Label → Comparisons
+  pub comparisons_in : LabelTree Label → Comparisons
   comparisons_in (node (compared_label o) p q) = plan.compared o (plan_in p) (comparisons_in q)
   comparisons_in t = plan.no_comparisons
 
-  pub choices_in : Tree Label → Choices
+  pub choices_in : LabelTree Label → Choices
   choices_in (node choice_label p (node l q r)) = plan.choice (plan_in p) (plan_in q) (choices_in r)
   choices_in t = plan.no_choices
 
-  pub pieces_in : Tree Label → Pieces
+  pub pieces_in : LabelTree Label → Pieces
   pieces_in (node value_piece_label p q) = plan.value_piece (plan_in p) (pieces_in q)
   pieces_in (node (text_piece_label t) p t1) = plan.text_piece t (pieces_in p)
   pieces_in t = plan.no_pieces
@@ -221,7 +221,7 @@ mutual
 
 module _ (c : Coded Label) where
   abbrev pub coded_plan : Coded Plan
-  coded_plan = code_by (Tree Label) (coded_tree c) plan_tree plan_in plan_back
+  coded_plan = code_by (LabelTree Label) (coded_tree c) plan_tree plan_in plan_back
 
   abbrev pub coded_body : Coded BodyPlan
   coded_body = code_by (ℕ × Plan) (coded× coded_ℕ coded_plan) (λ b. (b.variables, b.code)) (λ p. record { variables = p.0; code = p.1 }) (λ _. refl)

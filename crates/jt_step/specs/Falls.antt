@@ -20,13 +20,13 @@ use Rattle.jt_program.specs.Plan.{Plan, Plans, Operands, Comparisons, Choices, P
 use Rattle.jt_program.specs.Plan as plan
 use Rattle.jt_meaning.specs.declared.start.Start.{Start}
 use Rattle.jt_meaning.specs.State as state
-use Rattle.jt_meaning.specs.State.{State, Out, Gave, Returned, Broke, Continued, Faulted, Asks, Unfit, Step, turns_of, bind, Given, given, answered, ask, ask_with, turn, turn_with, enter, enter_with, renew, renew_with}
+use Rattle.jt_meaning.specs.State.{State, Out, Gave, Returned, Broke, Continued, Faulted, Asks, Unfit, TaskPart, turns_of, bind, Given, given, answered, ask, ask_with, turn, turn_with, enter, enter_with, renew, renew_with}
 use Rattle.jt_meaning.specs.Values.{Valued, operated, unary_of, applied, compared_by, shown, shown_with, text_of}
 use Rattle.jt_meaning.specs.Meaning.{gives, known, test, proceed, holds, looped, left, variables_of, print_text, values_taken, values_known, child_start, await, fork_with, fork, first_fault, noticed, wait_all, unless_failed, awaiting, synced, Later, whole, range, either, bounds, turns_from, call, call_built_in, call_of, run, run_operands, run_comparisons, run_connection, run_choices, run_all, run_arguments, run_pieces, later, meaning, go, ended}
 
 -- ---- what parts are put together by
 
-pub bind_falls : (o : Out) (k : Value → Step) (n : ℕ) → turns_of o ≤ n → ((v : Value) (s : State) → turns_of (k v s) ≤ s.turns) → turns_of (bind o k) ≤ n
+pub bind_falls : (o : Out) (k : Value → TaskPart) (n : ℕ) → turns_of o ≤ n → ((v : Value) (s : State) → turns_of (k v s) ≤ s.turns) → turns_of (bind o k) ≤ n
 bind_falls (Gave v s) k n h f = omega (arith, f v s)
 bind_falls (Returned v s) k n h f = h
 bind_falls (Broke s) k n h f = h
@@ -35,7 +35,7 @@ bind_falls (Faulted g s) k n h f = h
 bind_falls (Asks op start s) k n h f = h
 bind_falls Unfit k n h f = h
 
-pub looped_falls : (o : Out) (k : Step) (n : ℕ) → turns_of o ≤ n → ((s : State) → turns_of (k s) ≤ s.turns) → turns_of (looped k o) ≤ n
+pub looped_falls : (o : Out) (k : TaskPart) (n : ℕ) → turns_of o ≤ n → ((s : State) → turns_of (k s) ≤ s.turns) → turns_of (looped k o) ≤ n
 looped_falls (Gave v s) k n h f = omega (arith, f s)
 looped_falls (Continued s) k n h f = omega (arith, f s)
 looped_falls (Returned v s) k n h f = h
@@ -75,16 +75,16 @@ pub print_falls : (text : Option (List ℕ)) (s : State) → turns_of (print_tex
 print_falls (Some text) s = ask_falls (Print text) None s s.replies
 print_falls None s = omega arith
 
-pub turn_le : (t : ℕ) (k : Step) (s : State) → t ≡ s.turns → ((s : State) → turns_of (k s) ≤ s.turns) → turns_of (turn_with t k s) ≤ t
+pub turn_le : (t : ℕ) (k : TaskPart) (s : State) → t ≡ s.turns → ((s : State) → turns_of (k s) ≤ s.turns) → turns_of (turn_with t k s) ≤ t
 turn_le zero k s e f = omega arith
 turn_le (suc t) k s e f = omega (arith, f (record s { turns = t }))
 
-pub enter_le : (t : ℕ) (free : Bool) (k : Step) (s : State) → t ≡ s.turns → ((s : State) → turns_of (k s) ≤ s.turns) → turns_of (enter_with t free k s) ≤ s.turns
+pub enter_le : (t : ℕ) (free : Bool) (k : TaskPart) (s : State) → t ≡ s.turns → ((s : State) → turns_of (k s) ≤ s.turns) → turns_of (enter_with t free k s) ≤ s.turns
 enter_le zero free k s e f = omega arith
 enter_le (suc t) false k s e f = omega arith
 enter_le (suc t) true k s e f = omega (arith, f (record s { turns = t; open_calls = s.open_calls + 1 }))
 
-pub test_falls : (v : Value) (a b : Step) → ((s : State) → turns_of (a s) ≤ s.turns) → ((s : State) → turns_of (b s) ≤ s.turns) → (s : State) → turns_of (test v a b s) ≤ s.turns
+pub test_falls : (v : Value) (a b : TaskPart) → ((s : State) → turns_of (a s) ≤ s.turns) → ((s : State) → turns_of (b s) ≤ s.turns) → (s : State) → turns_of (test v a b s) ≤ s.turns
 test_falls (Flag true) a b f g s = f s
 test_falls (Flag false) a b f g s = g s
 test_falls (Int n) a b f g s = omega arith
@@ -92,20 +92,20 @@ test_falls Nothing a b f g s = omega arith
 test_falls (Task path) a b f g s = omega arith
 test_falls (Object kind name) a b f g s = omega arith
 
-pub proceed_falls : (c : Connective) (v : Value) (k : Step) → ((s : State) → turns_of (k s) ≤ s.turns) → (s : State) → turns_of (proceed c v k s) ≤ s.turns
+pub proceed_falls : (c : Connective) (v : Value) (k : TaskPart) → ((s : State) → turns_of (k s) ≤ s.turns) → (s : State) → turns_of (proceed c v k s) ≤ s.turns
 proceed_falls connective.And v k f s = test_falls v k _ f (λ s. omega arith) s
 proceed_falls connective.Or v k f s = test_falls v _ k (λ s. omega arith) f s
 
-pub holds_falls : (o : Option Bool) (k : Step) → ((s : State) → turns_of (k s) ≤ s.turns) → (s : State) → turns_of (holds o k s) ≤ s.turns
+pub holds_falls : (o : Option Bool) (k : TaskPart) → ((s : State) → turns_of (k s) ≤ s.turns) → (s : State) → turns_of (holds o k s) ≤ s.turns
 holds_falls (Some true) k f s = f s
 holds_falls (Some false) k f s = omega arith
 holds_falls None k f s = omega arith
 
-pub either_falls : (x : Bool) (a b : Step) → ((s : State) → turns_of (a s) ≤ s.turns) → ((s : State) → turns_of (b s) ≤ s.turns) → (s : State) → turns_of (either x a b s) ≤ s.turns
+pub either_falls : (x : Bool) (a b : TaskPart) → ((s : State) → turns_of (a s) ≤ s.turns) → ((s : State) → turns_of (b s) ≤ s.turns) → (s : State) → turns_of (either x a b s) ≤ s.turns
 either_falls true a b f g s = f s
 either_falls false a b f g s = g s
 
-pub bounds_falls : (k : ℤ → ℤ → Step) → ((a b : ℤ) (s : State) → turns_of (k a b s) ≤ s.turns) → (v w : Value) (s : State) → turns_of (bounds k v w s) ≤ s.turns
+pub bounds_falls : (k : ℤ → ℤ → TaskPart) → ((a b : ℤ) (s : State) → turns_of (k a b s) ≤ s.turns) → (v w : Value) (s : State) → turns_of (bounds k v w s) ≤ s.turns
 bounds_falls k f (Int a) (Int b) s = f a b s
 bounds_falls k f v w s = omega arith
 
@@ -123,7 +123,7 @@ fork_falls (Some b) body slots awaits s =
     (fork_with_falls (s.path ++ s.spawned ∷ []) awaits (child_start body s.stream (values_taken [] s.variables slots) (values_known [] s.constants)))
     (λ s. omega arith) s
 
-pub noticed_falls : (first : Option Fault) (k : Option Fault → Step) (o : Out) (n : ℕ) → turns_of o ≤ n → ((f : Option Fault) (s : State) → turns_of (k f s) ≤ s.turns) → turns_of (noticed first k o) ≤ n
+pub noticed_falls : (first : Option Fault) (k : Option Fault → TaskPart) (o : Out) (n : ℕ) → turns_of o ≤ n → ((f : Option Fault) (s : State) → turns_of (k f s) ≤ s.turns) → turns_of (noticed first k o) ≤ n
 noticed_falls first k (Gave v s) n h f = omega (arith, f first s)
 noticed_falls first k (Faulted q s) n h f = omega (arith, f (first_fault first q) s)
 noticed_falls first k (Returned v s) n h f = h
@@ -132,12 +132,12 @@ noticed_falls first k (Continued s) n h f = h
 noticed_falls first k (Asks op start s) n h f = h
 noticed_falls first k Unfit n h f = h
 
-pub waits_fall : (paths : List (List ℕ)) (first : Option Fault) (k : Option Fault → Step) (s : State) → ((f : Option Fault) (s : State) → turns_of (k f s) ≤ s.turns) → turns_of (wait_all paths first k s) ≤ s.turns
+pub waits_fall : (paths : List (List ℕ)) (first : Option Fault) (k : Option Fault → TaskPart) (s : State) → ((f : Option Fault) (s : State) → turns_of (k f s) ≤ s.turns) → turns_of (wait_all paths first k s) ≤ s.turns
 waits_fall [] first k s f = f first s
 waits_fall (path ∷ paths) first k s f =
     noticed_falls first (λ f. wait_all paths f k) (ask (Wait path) None s) s.turns (ask_falls (Wait path) None s s.replies) (λ g s. waits_fall paths g k s f)
 
-pub unless_falls : (k : Step) (o : Option Fault) (s : State) → ((s : State) → turns_of (k s) ≤ s.turns) → turns_of (unless_failed k o s) ≤ s.turns
+pub unless_falls : (k : TaskPart) (o : Option Fault) (s : State) → ((s : State) → turns_of (k s) ≤ s.turns) → turns_of (unless_failed k o s) ≤ s.turns
 unless_falls k None s f = f s
 unless_falls k (Some g) s f = omega arith
 
@@ -161,22 +161,22 @@ built_in_falls f vs s = gives_falls (applied f vs) s
 -- ---- trees, where calls and further turns are done by lower
 
 -- it gives no turn back
-pub record TurnsFall (lower : Later → Step) : Type 0 where
+pub record TurnsFall (lower : Later → TaskPart) : Type 0 where
   pub by : (l : Later) (s : State) → turns_of (lower l s) ≤ s.turns
 
-pub from_falls : (lower : Later → Step) (first count : ℕ) (b : Plan) (body : Step) → TurnsFall lower → ((s : State) → turns_of (body s) ≤ s.turns) → (i last : ℤ) (s : State) → turns_of (turns_from lower first count b body i last s) ≤ s.turns
+pub from_falls : (lower : Later → TaskPart) (first count : ℕ) (b : Plan) (body : TaskPart) → TurnsFall lower → ((s : State) → turns_of (body s) ≤ s.turns) → (i last : ℤ) (s : State) → turns_of (turns_from lower first count b body i last s) ≤ s.turns
 from_falls lower first count b body f g i last s =
     either_falls (int_le i last) _ _
     (λ s. turn_le s.turns _ s refl (λ s. looped_falls (body (renew_with first count (Int i) s)) _ _ (g (renew_with first count (Int i) s)) (f.by (range first count b (i +ℤ pos 1) last))))
     (λ s. omega arith) s
 
-pub call_falls : (lower : Later → Step) (o : Option BodyPlan) (vs : List Value) (s : State) → TurnsFall lower → turns_of (call lower o vs s) ≤ s.turns
+pub call_falls : (lower : Later → TaskPart) (o : Option BodyPlan) (vs : List Value) (s : State) → TurnsFall lower → turns_of (call lower o vs s) ≤ s.turns
 call_falls lower None vs s f = omega arith
 call_falls lower (Some b) vs s f =
     enter_le s.turns (nat_lt s.open_calls most_calls) _ s refl
     (λ s2. left_falls (lower (whole b.code) (record s2 { variables = variables_of b vs })) _ _ s2.turns (f.by (whole b.code) (record s2 { variables = variables_of b vs })))
 
-module _ (program : ProgramPlan) (lower : Later → Step) (f : TurnsFall lower) where
+module _ (program : ProgramPlan) (lower : Later → TaskPart) (f : TurnsFall lower) where
   pub call_of_falls : (c : Callee) (vs : List Value) (s : State) → turns_of (call_of program lower c vs s) ≤ s.turns
   call_of_falls (callee.Function n) vs s = call_falls lower (slice_get program.functions n) vs s f
   call_of_falls (callee.BuiltIn g) vs s = built_in_falls g vs s
@@ -224,7 +224,7 @@ module _ (program : ProgramPlan) (lower : Later → Step) (f : TurnsFall lower) 
     connection_falls c v (plan.plan e es) s =
         proceed_falls c v _ (λ s. bind_falls (run program lower e s) _ _ (run_falls e s) (λ w. connection_falls c w es)) s
 
-    pub choices_falls : (cs : Choices) (k : Step) → ((s : State) → turns_of (k s) ≤ s.turns) → (s : State) → turns_of (run_choices program lower cs k s) ≤ s.turns
+    pub choices_falls : (cs : Choices) (k : TaskPart) → ((s : State) → turns_of (k s) ≤ s.turns) → (s : State) → turns_of (run_choices program lower cs k s) ≤ s.turns
     choices_falls plan.no_choices k g s = g s
     choices_falls (plan.choice c e cs) k g s =
         bind_falls (run program lower c s) _ _ (run_falls c s) (λ v. test_falls v _ _ (run_falls e) (choices_falls cs k g))

@@ -26,7 +26,7 @@ use Rattle.jt_program.specs.Plan.{Plan, Plans, Operands, Comparisons, Choices, P
 use Rattle.jt_program.specs.Plan as plan
 use Rattle.jt_meaning.specs.declared.start.Start.{Start}
 use Rattle.jt_meaning.specs.State as state
-use Rattle.jt_meaning.specs.State.{State, Out, Gave, Returned, Broke, Continued, Faulted, Asks, Unfit, Step, turns_of, bind, Given, given, answered, ask, ask_with, turn, turn_with, enter, enter_with, renew, renew_with}
+use Rattle.jt_meaning.specs.State.{State, Out, Gave, Returned, Broke, Continued, Faulted, Asks, Unfit, TaskPart, turns_of, bind, Given, given, answered, ask, ask_with, turn, turn_with, enter, enter_with, renew, renew_with}
 use Rattle.jt_meaning.specs.Values.{Valued, operated, unary_of, applied, compared_by, shown, shown_with, text_of}
 use Rattle.jt_meaning.specs.Meaning.{gives, known, test, proceed, holds, looped, left, variables_of, print_text, values_taken, values_known, child_start, await, fork_with, fork, first_fault, noticed, wait_all, unless_failed, awaiting, synced, Later, whole, range, either, bounds, turns_from, call, call_built_in, call_of, run, run_operands, run_comparisons, run_connection, run_choices, run_all, run_arguments, run_pieces, later, go}
 use Rattle.jt_meaning.specs.Next.{IsLater}
@@ -50,7 +50,7 @@ module _ (program : ProgramPlan) (w : Reach) where
   Left s = (length s.replies ≤ w.replies) × (s.path ≡ w.path) × (w.replies ≡ 0 → s.spawned ≡ w.made)
 
   -- a spawn makes the child of the next number
-  pub record Makes (op : Op) (start : Start) (s : State) : Type 0 where
+  pub record SpawnsNext (op : Op) (start : Start) (s : State) : Type 0 where
     pub number : ℕ
     pub names : op ≡ Spawn (w.path ++ number ∷ []) start.how
     pub counts : s.spawned ≡ number + 1
@@ -60,10 +60,10 @@ module _ (program : ProgramPlan) (w : Reach) where
   -- a spawn, and no other operation, comes with a start
   abbrev pub AsksFor : Op → Option Start → State → Type 0
   AsksFor op None s = (is_spawn op ≡ false) × (w.replies ≡ 0 → s.spawned ≡ w.made)
-  AsksFor op (Some start) s = Makes op start s
+  AsksFor op (Some start) s = SpawnsNext op start s
 
   -- what a tree asks, and when
-  pub record Asked (op : Op) (start : Option Start) (s : State) : Type 0 where
+  pub record IsAsked (op : Op) (start : Option Start) (s : State) : Type 0 where
     pub kind : AsksFor op start s
     pub later : IsLater op
     pub further : ends op ≡ false
@@ -76,12 +76,12 @@ module _ (program : ProgramPlan) (w : Reach) where
   Fine (Broke s) = Left s
   Fine (Continued s) = Left s
   Fine (Faulted f s) = Left s
-  Fine (Asks op start s) = Asked op start s
+  Fine (Asks op start s) = IsAsked op start s
   Fine Unfit = w.fits ≡ true → 0 < w.replies
 
   -- ---- what parts are put together by
 
-  pub bind_fine : (o : Out) (k : Value → Step) (t : ℕ) → turns_of o ≤ t → Fine o → ((v : Value) (s : State) → s.turns ≤ t → Left s → Fine (k v s)) → Fine (bind o k)
+  pub bind_fine : (o : Out) (k : Value → TaskPart) (t : ℕ) → turns_of o ≤ t → Fine o → ((v : Value) (s : State) → s.turns ≤ t → Left s → Fine (k v s)) → Fine (bind o k)
   bind_fine (Gave v s) k t g h f = f v s g h
   bind_fine (Returned v s) k t g h f = h
   bind_fine (Broke s) k t g h f = h
@@ -90,7 +90,7 @@ module _ (program : ProgramPlan) (w : Reach) where
   bind_fine (Asks op start s) k t g h f = h
   bind_fine Unfit k t g h f = h
 
-  pub looped_fine : (o : Out) (k : Step) (t : ℕ) → turns_of o ≤ t → Fine o → ((s : State) → s.turns ≤ t → Left s → Fine (k s)) → Fine (looped k o)
+  pub looped_fine : (o : Out) (k : TaskPart) (t : ℕ) → turns_of o ≤ t → Fine o → ((s : State) → s.turns ≤ t → Left s → Fine (k s)) → Fine (looped k o)
   looped_fine (Gave v s) k t g h f = f s g h
   looped_fine (Continued s) k t g h f = f s g h
   looped_fine (Returned v s) k t g h f = h
@@ -136,7 +136,7 @@ module _ (program : ProgramPlan) (w : Reach) where
   print_fine (Some text) s h = need_fine (Print text) s refl tt refl h
   print_fine None s h = h
 
-  pub test_fine : (v : Value) (a b : Step) (s : State) → Left s → Fine (a s) → Fine (b s) → Fine (test v a b s)
+  pub test_fine : (v : Value) (a b : TaskPart) (s : State) → Left s → Fine (a s) → Fine (b s) → Fine (test v a b s)
   test_fine (Flag true) a b s h f g = f
   test_fine (Flag false) a b s h f g = g
   test_fine (Int i) a b s h f g = h
@@ -144,28 +144,28 @@ module _ (program : ProgramPlan) (w : Reach) where
   test_fine (Task path) a b s h f g = h
   test_fine (Object kind name) a b s h f g = h
 
-  proceed_fine : (c : Connective) (v : Value) (k : Step) (s : State) → Left s → Fine (k s) → Fine (proceed c v k s)
+  proceed_fine : (c : Connective) (v : Value) (k : TaskPart) (s : State) → Left s → Fine (k s) → Fine (proceed c v k s)
   proceed_fine connective.And v k s h f = test_fine v k _ s h f h
   proceed_fine connective.Or v k s h f = test_fine v _ k s h h f
 
-  pub holds_fine : (o : Option Bool) (k : Step) (s : State) → Left s → Fine (k s) → Fine (holds o k s)
+  pub holds_fine : (o : Option Bool) (k : TaskPart) (s : State) → Left s → Fine (k s) → Fine (holds o k s)
   holds_fine (Some true) k s h f = f
   holds_fine (Some false) k s h f = h
   holds_fine None k s h f = h
 
-  either_fine : (x : Bool) (a b : Step) (s : State) → Fine (a s) → Fine (b s) → Fine (either x a b s)
+  either_fine : (x : Bool) (a b : TaskPart) (s : State) → Fine (a s) → Fine (b s) → Fine (either x a b s)
   either_fine true a b s f g = f
   either_fine false a b s f g = g
 
-  pub bounds_fine : (k : ℤ → ℤ → Step) (v w : Value) (s : State) → Left s → ((a b : ℤ) → Fine (k a b s)) → Fine (bounds k v w s)
+  pub bounds_fine : (k : ℤ → ℤ → TaskPart) (v w : Value) (s : State) → Left s → ((a b : ℤ) → Fine (k a b s)) → Fine (bounds k v w s)
   bounds_fine k (Int a) (Int b) s h f = f a b
   bounds_fine k v w s h f = h
 
-  turn_fine : (t m : ℕ) (k : Step) (s : State) → t < suc m → Left s → ((s : State) → s.turns < m → Left s → Fine (k s)) → Fine (turn_with t k s)
+  turn_fine : (t m : ℕ) (k : TaskPart) (s : State) → t < suc m → Left s → ((s : State) → s.turns < m → Left s → Fine (k s)) → Fine (turn_with t k s)
   turn_fine zero m k s g h f = h
   turn_fine (suc t) m k s g h f = f (record s { turns = t }) (omega arith) h
 
-  enter_fine : (t m : ℕ) (free : Bool) (k : Step) (s : State) → t < suc m → Left s → ((s : State) → s.turns < m → Left s → Fine (k s)) → Fine (enter_with t free k s)
+  enter_fine : (t m : ℕ) (free : Bool) (k : TaskPart) (s : State) → t < suc m → Left s → ((s : State) → s.turns < m → Left s → Fine (k s)) → Fine (enter_with t free k s)
   enter_fine zero m free k s g h f = h
   enter_fine (suc t) m false k s g h f = h
   enter_fine (suc t) m true k s g h f = f (record s { turns = t; open_calls = s.open_calls + 1 }) (omega arith) h
@@ -195,7 +195,7 @@ module _ (program : ProgramPlan) (w : Reach) where
       (fork_with_fine (s.path ++ s.spawned ∷ []) awaits (child_start body s.stream (values_taken [] s.variables slots) (values_known [] s.constants)) s refl
       (child_fine body s.stream (values_taken [] s.variables slots) (values_known [] s.constants) (slice_get_within program.tasks body b e)) h) h
 
-  pub noticed_fine : (first : Option Fault) (k : Option Fault → Step) (o : Out) → Fine o → ((f : Option Fault) (s : State) → Left s → Fine (k f s)) → Fine (noticed first k o)
+  pub noticed_fine : (first : Option Fault) (k : Option Fault → TaskPart) (o : Out) → Fine o → ((f : Option Fault) (s : State) → Left s → Fine (k f s)) → Fine (noticed first k o)
   noticed_fine first k (Gave v s) h f = f first s h
   noticed_fine first k (Faulted q s) h f = f (first_fault first q) s h
   noticed_fine first k (Returned v s) h f = h
@@ -204,12 +204,12 @@ module _ (program : ProgramPlan) (w : Reach) where
   noticed_fine first k (Asks op start s) h f = h
   noticed_fine first k Unfit h f = h
 
-  pub waits_fine : (paths : List (List ℕ)) (first : Option Fault) (k : Option Fault → Step) (s : State) → Left s → ((f : Option Fault) (s : State) → Left s → Fine (k f s)) → Fine (wait_all paths first k s)
+  pub waits_fine : (paths : List (List ℕ)) (first : Option Fault) (k : Option Fault → TaskPart) (s : State) → Left s → ((f : Option Fault) (s : State) → Left s → Fine (k f s)) → Fine (wait_all paths first k s)
   waits_fine [] first k s h f = f first s h
   waits_fine (path ∷ paths) first k s h f =
       noticed_fine first (λ q. wait_all paths q k) (ask (Wait path) None s) (need_fine (Wait path) s refl tt refl h) (λ q s h. waits_fine paths q k s h f)
 
-  pub unless_fine : (k : Step) (o : Option Fault) (s : State) → Left s → Fine (k s) → Fine (unless_failed k o s)
+  pub unless_fine : (k : TaskPart) (o : Option Fault) (s : State) → Left s → Fine (k s) → Fine (unless_failed k o s)
   unless_fine k None s h f = f
   unless_fine k (Some q) s h f = h
 
@@ -232,21 +232,21 @@ module _ (program : ProgramPlan) (w : Reach) where
   -- ---- trees
 
   -- where fewer than m turns are left
-  pub record Fines (m : ℕ) (lower : Later → Step) : Type 0 where
+  pub record Fines (m : ℕ) (lower : Later → TaskPart) : Type 0 where
     pub by : (l : Later) (s : State) → s.turns < m → Left s → Fine (lower l s)
 
-  call_fine : (m : ℕ) (lower : Later → Step) (o : Option BodyPlan) (vs : List Value) (s : State) → Fines m lower → s.turns < suc m → Left s → Fine (call lower o vs s)
+  call_fine : (m : ℕ) (lower : Later → TaskPart) (o : Option BodyPlan) (vs : List Value) (s : State) → Fines m lower → s.turns < suc m → Left s → Fine (call lower o vs s)
   call_fine m lower None vs s a g h = h
   call_fine m lower (Some b) vs s a g h =
       enter_fine s.turns m (nat_lt s.open_calls most_calls) _ s g h (λ s2 g2 h2. left_fine (lower (whole b.code) (record s2 { variables = variables_of b vs })) _ _ (a.by (whole b.code) (record s2 { variables = variables_of b vs }) g2 h2))
 
-  from_fine : (m : ℕ) (lower : Later → Step) (first count : ℕ) (b : Plan) (body : Step) → Fines m lower → ((s : State) → turns_of (body s) ≤ s.turns) → ((s : State) → s.turns < suc m → Left s → Fine (body s)) → (i last : ℤ) (s : State) → s.turns < suc m → Left s → Fine (turns_from lower first count b body i last s)
+  from_fine : (m : ℕ) (lower : Later → TaskPart) (first count : ℕ) (b : Plan) (body : TaskPart) → Fines m lower → ((s : State) → turns_of (body s) ≤ s.turns) → ((s : State) → s.turns < suc m → Left s → Fine (body s)) → (i last : ℤ) (s : State) → s.turns < suc m → Left s → Fine (turns_from lower first count b body i last s)
   from_fine m lower first count b body a f c i last s g h =
       either_fine (int_le i last) _ _ s
       (turn_fine s.turns m _ s g h (λ s g2 h2. looped_fine (body (renew_with first count (Int i) s)) _ s.turns (f (renew_with first count (Int i) s)) (c (renew_with first count (Int i) s) (omega arith) h2)
       (λ s g3. a.by (range first count b (i +ℤ pos 1) last) s (omega arith)))) h
 
-  module _ (m : ℕ) (lower : Later → Step) (f : TurnsFall lower) (a : Fines m lower) where
+  module _ (m : ℕ) (lower : Later → TaskPart) (f : TurnsFall lower) (a : Fines m lower) where
     falls : (e : Plan) (s : State) → turns_of (run program lower e s) ≤ s.turns
     falls = run_falls program lower f
 
@@ -298,7 +298,7 @@ module _ (program : ProgramPlan) (w : Reach) where
       connection_fine c v (plan.plan e es) s g h =
           proceed_fine c v _ s h (bind_fine (run program lower e s) _ s.turns (falls e s) (run_fine e s g h) (λ w s g2. connection_fine c w es s (omega arith)))
 
-      choices_fine : (cs : Choices) (k : Step) → ((s : State) → s.turns < suc m → Left s → Fine (k s)) → (s : State) → s.turns < suc m → Left s → Fine (run_choices program lower cs k s)
+      choices_fine : (cs : Choices) (k : TaskPart) → ((s : State) → s.turns < suc m → Left s → Fine (k s)) → (s : State) → s.turns < suc m → Left s → Fine (run_choices program lower cs k s)
       choices_fine plan.no_choices k q s g h = q s g h
       choices_fine (plan.choice c e cs) k q s g h =
           bind_fine (run program lower c s) _ s.turns (falls c s) (run_fine c s g h) (λ v s g2 h2. test_fine v _ _ s h2 (run_fine e s (omega arith) h2) (choices_fine cs k q s (omega arith) h2))
@@ -342,7 +342,7 @@ module _ (program : ProgramPlan) (w : Reach) where
   pub does_connection_fine : (c : Connective) (v : Value) (es : Plans) (s : State) → Left s → Fine (run_connection program (go program) c v es s)
   does_connection_fine c v es s h = connection_fine s.turns (go program) (go_falls program) (goes_fine s.turns) c v es s (omega arith) h
 
-  pub does_choices_fine : (cs : Choices) (k : Step) → ((s : State) → Left s → Fine (k s)) → (s : State) → Left s → Fine (run_choices program (go program) cs k s)
+  pub does_choices_fine : (cs : Choices) (k : TaskPart) → ((s : State) → Left s → Fine (k s)) → (s : State) → Left s → Fine (run_choices program (go program) cs k s)
   does_choices_fine cs k q s h = choices_fine s.turns (go program) (go_falls program) (goes_fine s.turns) cs k (λ s g. q s) s (omega arith) h
 
   pub does_all_fine : (v : Value) (es : Plans) (s : State) → Left s → Fine (run_all program (go program) v es s)

@@ -19,7 +19,7 @@ use Rattle.jt_meaning.specs.Run.{Run}
 use Rattle.jt_meaning.specs.Next.{next_of, over_with, next_operation, IsLater}
 use Rattle.jt_step.specs.Tasks.{ComesAfter, IsTaskOp}
 use Rattle.jt_step.specs.Fine.{Reach, Fine, go_fine}
-use Rattle.jt_step.specs.Spawned.{Closed, OneMore, Made, made_by, one_more, closed_from}
+use Rattle.jt_step.specs.Spawned.{Closed, OneMore, HasMade, made_by, one_more, closed_from}
 
 -- ---- the first operation
 
@@ -133,7 +133,7 @@ module _ (p : ProgramPlan) (path : List ℕ) (k : ℕ) where
   same_spawn : (q op : Op) (t child : Start) → ◌≡◌ {A = Option (Next Start)} (Some (Spawns q t)) (Some (Spawns op child)) → (q ≡ op) × (t ≡ child)
   same_spawn q op t child e = (cc, cc)
 
-  needs_plain : (o : Out) (op : Op) → Made p path k o → next_of o ≡ Some (Needs op) → is_spawn op ≡ false
+  needs_plain : (o : Out) (op : Op) → HasMade p path k o → next_of o ≡ Some (Needs op) → is_spawn op ≡ false
   needs_plain (Asks q None s) op m e = subst (λ x. is_spawn x ≡ false) (same_need q op e) m.1.0.0
   needs_plain (Asks q (Some t) s) op m e = absurd (cc)
   needs_plain (Gave v s) op m e = absurd (over_needs s.replies op e)
@@ -143,7 +143,7 @@ module _ (p : ProgramPlan) (path : List ℕ) (k : ℕ) where
   needs_plain (Faulted f s) op m e = absurd (cc)
   needs_plain Unfit op m e = absurd (cc)
 
-  spawns_made : (o : Out) (op : Op) (child : Start) → Made p path k o → next_of o ≡ Some (Spawns op child) → MakesChild p path k op child
+  spawns_made : (o : Out) (op : Op) (child : Start) → HasMade p path k o → next_of o ≡ Some (Spawns op child) → MakesChild p path k op child
   spawns_made (Asks q (Some t) s) op child m e =
       let same = same_spawn q op t child e in
       let makes = m.1.0 in

@@ -23,7 +23,7 @@ use Rattle.jt_program.specs.Plan.{Plan, Plans, Operands, Comparisons, Choices, P
 use Rattle.jt_program.specs.Plan as plan
 use Rattle.jt_meaning.specs.declared.start.Start.{Start}
 use Rattle.jt_meaning.specs.State as state
-use Rattle.jt_meaning.specs.State.{State, Out, Gave, Returned, Broke, Continued, Faulted, Asks, Unfit, Step, turns_of, bind, Given, given, answered, ask, ask_with, turn, turn_with, enter, enter_with, renew, renew_with}
+use Rattle.jt_meaning.specs.State.{State, Out, Gave, Returned, Broke, Continued, Faulted, Asks, Unfit, TaskPart, turns_of, bind, Given, given, answered, ask, ask_with, turn, turn_with, enter, enter_with, renew, renew_with}
 use Rattle.jt_meaning.specs.Values.{Valued, operated, unary_of, applied, compared_by, shown, shown_with, text_of}
 use Rattle.jt_meaning.specs.Meaning.{gives, known, test, proceed, holds, looped, left, variables_of, print_text, values_taken, values_known, child_start, await, fork_with, fork, first_fault, noticed, wait_all, unless_failed, awaiting, synced, Later, whole, range, either, bounds, turns_from, call, call_built_in, call_of, run, run_operands, run_comparisons, run_connection, run_choices, run_all, run_arguments, run_pieces, later, go}
 use Rattle.jt_step.specs.Falls.{gives_falls, run_falls, go_falls}
@@ -77,7 +77,7 @@ module _ (r : Reply) where
 
     -- ---- what parts are put together by
 
-    bind_more : (o o' : Out) (k : Value → Step) (t : ℕ) → turns_of o ≤ t → More o o' → ((v : Value) (s : State) → s.turns ≤ t → More (k v s) (k v (plus s))) → ((v : Value) (w : Reach) (s : State) → Left program w s → Fine program w (k v s)) → More (bind o k) (bind o' k)
+    bind_more : (o o' : Out) (k : Value → TaskPart) (t : ℕ) → turns_of o ≤ t → More o o' → ((v : Value) (s : State) → s.turns ≤ t → More (k v s) (k v (plus s))) → ((v : Value) (w : Reach) (s : State) → Left program w s → Fine program w (k v s)) → More (bind o k) (bind o' k)
     bind_more (Gave v s) o' k t g h f q = subst (λ x. More (k v s) (bind x k)) (sym h) (f v s g)
     bind_more (Returned v s) o' k t g h f q = ap (λ x. bind x k) h
     bind_more (Broke s) o' k t g h f q = ap (λ x. bind x k) h
@@ -86,7 +86,7 @@ module _ (r : Reply) where
     bind_more (Asks op start s) o' k t g h f q = bind_fine program (after op s) o' k (turns_of o') (omega arith) h (λ v u g2. q v (after op s) u)
     bind_more Unfit o' k t g h f q = ap (λ x. bind x k) h
 
-    looped_more : (o o' : Out) (k : Step) (t : ℕ) → turns_of o ≤ t → More o o' → ((s : State) → s.turns ≤ t → More (k s) (k (plus s))) → ((w : Reach) (s : State) → Left program w s → Fine program w (k s)) → More (looped k o) (looped k o')
+    looped_more : (o o' : Out) (k : TaskPart) (t : ℕ) → turns_of o ≤ t → More o o' → ((s : State) → s.turns ≤ t → More (k s) (k (plus s))) → ((w : Reach) (s : State) → Left program w s → Fine program w (k s)) → More (looped k o) (looped k o')
     looped_more (Gave v s) o' k t g h f q = subst (λ x. More (k s) (looped k x)) (sym h) (f s g)
     looped_more (Continued s) o' k t g h f q = subst (λ x. More (k s) (looped k x)) (sym h) (f s g)
     looped_more (Returned v s) o' k t g h f q = ap (looped k) h
@@ -127,7 +127,7 @@ module _ (r : Reply) where
     print_more (Some text) s = ask_more (Print text) None s s.replies (print_fits text r)
     print_more None s = refl
 
-    test_more : (v : Value) (a b : Step) (s : State) → More (a s) (a (plus s)) → More (b s) (b (plus s)) → More (test v a b s) (test v a b (plus s))
+    test_more : (v : Value) (a b : TaskPart) (s : State) → More (a s) (a (plus s)) → More (b s) (b (plus s)) → More (test v a b s) (test v a b (plus s))
     test_more (Flag true) a b s f g = f
     test_more (Flag false) a b s f g = g
     test_more (Int n) a b s f g = refl
@@ -135,28 +135,28 @@ module _ (r : Reply) where
     test_more (Task path) a b s f g = refl
     test_more (Object kind name) a b s f g = refl
 
-    proceed_more : (c : Connective) (v : Value) (k : Step) (s : State) → More (k s) (k (plus s)) → More (proceed c v k s) (proceed c v k (plus s))
+    proceed_more : (c : Connective) (v : Value) (k : TaskPart) (s : State) → More (k s) (k (plus s)) → More (proceed c v k s) (proceed c v k (plus s))
     proceed_more connective.And v k s f = test_more v k _ s f refl
     proceed_more connective.Or v k s f = test_more v _ k s refl f
 
-    holds_more : (o : Option Bool) (k : Step) (s : State) → More (k s) (k (plus s)) → More (holds o k s) (holds o k (plus s))
+    holds_more : (o : Option Bool) (k : TaskPart) (s : State) → More (k s) (k (plus s)) → More (holds o k s) (holds o k (plus s))
     holds_more (Some true) k s f = f
     holds_more (Some false) k s f = refl
     holds_more None k s f = refl
 
-    either_more : (x : Bool) (a b : Step) (s : State) → More (a s) (a (plus s)) → More (b s) (b (plus s)) → More (either x a b s) (either x a b (plus s))
+    either_more : (x : Bool) (a b : TaskPart) (s : State) → More (a s) (a (plus s)) → More (b s) (b (plus s)) → More (either x a b s) (either x a b (plus s))
     either_more true a b s f g = f
     either_more false a b s f g = g
 
-    bounds_more : (k : ℤ → ℤ → Step) (v w : Value) (s : State) → ((a b : ℤ) → More (k a b s) (k a b (plus s))) → More (bounds k v w s) (bounds k v w (plus s))
+    bounds_more : (k : ℤ → ℤ → TaskPart) (v w : Value) (s : State) → ((a b : ℤ) → More (k a b s) (k a b (plus s))) → More (bounds k v w s) (bounds k v w (plus s))
     bounds_more k (Int a) (Int b) s f = f a b
     bounds_more k v w s f = refl
 
-    turn_more : (t m : ℕ) (k : Step) (s : State) → t < suc m → ((s : State) → s.turns < m → More (k s) (k (plus s))) → More (turn_with t k s) (turn_with t k (plus s))
+    turn_more : (t m : ℕ) (k : TaskPart) (s : State) → t < suc m → ((s : State) → s.turns < m → More (k s) (k (plus s))) → More (turn_with t k s) (turn_with t k (plus s))
     turn_more zero m k s g f = refl
     turn_more (suc t) m k s g f = f (record s { turns = t }) (omega arith)
 
-    enter_more : (t m : ℕ) (free : Bool) (k : Step) (s : State) → t < suc m → ((s : State) → s.turns < m → More (k s) (k (plus s))) → More (enter_with t free k s) (enter_with t free k (plus s))
+    enter_more : (t m : ℕ) (free : Bool) (k : TaskPart) (s : State) → t < suc m → ((s : State) → s.turns < m → More (k s) (k (plus s))) → More (enter_with t free k s) (enter_with t free k (plus s))
     enter_more zero m free k s g f = refl
     enter_more (suc t) m false k s g f = refl
     enter_more (suc t) m true k s g f = f (record s { turns = t; open_calls = s.open_calls + 1 }) (omega arith)
@@ -174,7 +174,7 @@ module _ (r : Reply) where
         either_more (nat_lt (length s.path) most_indexes) _ _ s
         (fork_with_more (s.path ++ s.spawned ∷ []) awaits (child_start body s.stream (values_taken [] s.variables slots) (values_known [] s.constants)) s) refl
 
-    noticed_more : (first : Option Fault) (k : Option Fault → Step) (o o' : Out) → More o o' → ((f : Option Fault) (s : State) → More (k f s) (k f (plus s))) → ((f : Option Fault) (w : Reach) (s : State) → Left program w s → Fine program w (k f s)) → More (noticed first k o) (noticed first k o')
+    noticed_more : (first : Option Fault) (k : Option Fault → TaskPart) (o o' : Out) → More o o' → ((f : Option Fault) (s : State) → More (k f s) (k f (plus s))) → ((f : Option Fault) (w : Reach) (s : State) → Left program w s → Fine program w (k f s)) → More (noticed first k o) (noticed first k o')
     noticed_more first k (Gave v s) o' h f q = subst (λ x. More (k first s) (noticed first k x)) (sym h) (f first s)
     noticed_more first k (Faulted g s) o' h f q = subst (λ x. More (k (first_fault first g) s) (noticed first k x)) (sym h) (f (first_fault first g) s)
     noticed_more first k (Returned v s) o' h f q = ap (noticed first k) h
@@ -183,13 +183,13 @@ module _ (r : Reply) where
     noticed_more first k (Asks op start s) o' h f q = noticed_fine program (after op s) first k o' h (λ g. q g (after op s))
     noticed_more first k Unfit o' h f q = ap (noticed first k) h
 
-    waits_more : (paths : List (List ℕ)) (first : Option Fault) (k : Option Fault → Step) (s : State) → ((f : Option Fault) (s : State) → More (k f s) (k f (plus s))) → ((f : Option Fault) (w : Reach) (s : State) → Left program w s → Fine program w (k f s)) → More (wait_all paths first k s) (wait_all paths first k (plus s))
+    waits_more : (paths : List (List ℕ)) (first : Option Fault) (k : Option Fault → TaskPart) (s : State) → ((f : Option Fault) (s : State) → More (k f s) (k f (plus s))) → ((f : Option Fault) (w : Reach) (s : State) → Left program w s → Fine program w (k f s)) → More (wait_all paths first k s) (wait_all paths first k (plus s))
     waits_more [] first k s f q = f first s
     waits_more (path ∷ paths) first k s f q =
         noticed_more first (λ g. wait_all paths g k) (ask (Wait path) None s) _ (ask_more (Wait path) None s s.replies (wait_fits path r))
         (λ g s. waits_more paths g k s f q) (λ g w s h. waits_fine program w paths g k s h (λ x. q x w))
 
-    unless_more : (k : Step) (o : Option Fault) (s : State) → More (k s) (k (plus s)) → More (unless_failed k o s) (unless_failed k o (plus s))
+    unless_more : (k : TaskPart) (o : Option Fault) (s : State) → More (k s) (k (plus s)) → More (unless_failed k o s) (unless_failed k o (plus s))
     unless_more k None s f = f
     unless_more k (Some g) s f = refl
 
@@ -218,7 +218,7 @@ module _ (r : Reply) where
     record Mores (m : ℕ) : Type 0 where
       by : (l : Later) (s : State) → s.turns < m → More (go program l s) (go program l (plus s))
 
-    abbrev does : Plan → Step
+    abbrev does : Plan → TaskPart
     does = run program (go program)
 
     falls : (e : Plan) (s : State) → turns_of (does e s) ≤ s.turns
@@ -288,7 +288,7 @@ module _ (r : Reply) where
         connection_more c v (plan.plan e es) s g =
             proceed_more c v _ s (bind_more (does e s) _ _ s.turns (falls e s) (run_more e s g) (λ w s g2. connection_more c w es s (omega arith)) (λ w z. does_connection_fine program z c w es))
 
-        choices_more : (cs : Choices) (k : Step) → ((s : State) → s.turns < suc m → More (k s) (k (plus s))) → ((w : Reach) (s : State) → Left program w s → Fine program w (k s)) → (s : State) → s.turns < suc m → More (run_choices program (go program) cs k s) (run_choices program (go program) cs k (plus s))
+        choices_more : (cs : Choices) (k : TaskPart) → ((s : State) → s.turns < suc m → More (k s) (k (plus s))) → ((w : Reach) (s : State) → Left program w s → Fine program w (k s)) → (s : State) → s.turns < suc m → More (run_choices program (go program) cs k s) (run_choices program (go program) cs k (plus s))
         choices_more plan.no_choices k f q s g = f s g
         choices_more (plan.choice c e cs) k f q s g =
             bind_more (does c s) _ _ s.turns (falls c s) (run_more c s g) (λ v s g2. test_more v _ _ s (run_more e s (omega arith)) (choices_more cs k f q s (omega arith))) (λ v z s h. test_fine program z v _ _ s h (does_fine program z e s h) (does_choices_fine program z cs k (q z) s h))

@@ -16,7 +16,7 @@ use Rattle.jt_program.specs.declared.code.Piece.{Piece}
 use Rattle.jt_program.specs.Plan.{BodyPlan, ProgramPlan, Pieces}
 use Rattle.jt_program.specs.Plan as plan
 use Rattle.jt_program.specs.View.{plan_of}
-use Rattle.jt_meaning.specs.State.{Step}
+use Rattle.jt_meaning.specs.State.{TaskPart}
 use Rattle.jt_meaning.specs.Values.{Valued, applied}
 use Rattle.jt_step.specs.declared.frame.Exit.{Exit}
 use Rattle.jt_step.specs.declared.frame.Exit.TheVariants as exit
@@ -80,7 +80,7 @@ left_mode exit.Value v None = mode.Gave v
 left_mode exit.Return v None = mode.Returned v
 
 -- one evaluator does this in the place of the other, with less work than so much and its frames
-pub record Does (program : ProgramPlan) (m : Evaluator) (step : Step) (most : ℕ) (m' : Evaluator) (md : Mode) : Type 0 where
+pub record Does (program : ProgramPlan) (m : Evaluator) (step : TaskPart) (most : ℕ) (m' : Evaluator) (md : Mode) : Type 0 where
   pub same : (rs : List Reply) → at program m' md rs ≡ resume program m.frames.items (step (state_of m rs))
   pub less : work m' md < most + frames_weight m.frames.items
   pub turns : m'.turns ≡ m.turns

@@ -183,20 +183,20 @@ module _ (program : ProgramPlan) where
     behind n fits = record { path = path; replies = 0; made = n; fits = fits }
 
     -- so many spawns were answered
-    abbrev pub Made : ℕ → Out → Type 0
-    Made n o = (fits : Bool) × Comes (behind n fits) o
+    abbrev pub HasMade : ℕ → Out → Type 0
+    HasMade n o = (fits : Bool) × Comes (behind n fits) o
 
-    closed_made : (n : ℕ) (o : Out) → Closed o → Made n o
+    closed_made : (n : ℕ) (o : Out) → Closed o → HasMade n o
     closed_made n o h = (true, closed_comes (behind n true) o h)
 
-    made_after : (r : Reply) (op : Op) (s : State) (n : ℕ) (o : Out) → s.path ≡ path → s.spawned ≡ n → After r op s o → Made n o
+    made_after : (r : Reply) (op : Op) (s : State) (n : ℕ) (o : Out) → s.path ≡ path → s.spawned ≡ n → After r op s o → HasMade n o
     made_after r op s n o p e a = (
       can_reply op r,
       subst (λ q. Comes (record { path = q; replies = 0; made = n; fits = can_reply op r }) o) p
           (subst (λ m. Comes (record { path = s.path; replies = 0; made = m; fits = can_reply op r }) o) e a.comes),
     )
 
-    made_more : (r : Reply) (n : ℕ) (o o' : Out) → Made n o → OneMore r o o' → Made (n + one_spawn (next_of o)) o'
+    made_more : (r : Reply) (n : ℕ) (o o' : Out) → HasMade n o → OneMore r o o' → HasMade (n + one_spawn (next_of o)) o'
     made_more r n (Asks op None s) o' m a = made_after r op s (n + 0) o' m.1.1 (let e = m.1.0.1 refl in omega (arith, e)) a
     made_more r n (Asks op (Some start) s) o' m a =
         made_after r op s (n + 1) o' m.1.1 (let e = m.1.0.follows refl in omega (arith, e, m.1.0.counts)) a
@@ -216,20 +216,20 @@ module _ (run : Run) (path : List ℕ) (start : Start) where
   pub one_more : (rs : List Reply) (r : Reply) → OneMore run.program r (outcome rs) (outcome (rs ++ r ∷ []))
   one_more rs r = task_more run.program r (slice_get run.program.tasks start.code) start.captured (beginning run.program run.limits.turns path start rs)
 
-  made_first : (o : Option BodyPlan) → Made run.program path 0 (task_of run.program o start.captured (beginning run.program run.limits.turns path start []))
+  made_first : (o : Option BodyPlan) → HasMade run.program path 0 (task_of run.program o start.captured (beginning run.program run.limits.turns path start []))
   made_first None = (true, tt)
   made_first (Some b) = (true, ((refl, λ z. refl), refl))
 
-  made_from : (before rs : List Reply) (n : ℕ) → Made run.program path n (outcome before) → Made run.program path (n + spawned_from (next_operation run path start) before rs) (outcome (before ++ rs))
-  made_from before [] n m = subst (λ l. Made run.program path (n + 0) (outcome l)) (sym (append-nil before)) (subst (λ k. Made run.program path k (outcome before)) (omega arith) m)
+  made_from : (before rs : List Reply) (n : ℕ) → HasMade run.program path n (outcome before) → HasMade run.program path (n + spawned_from (next_operation run path start) before rs) (outcome (before ++ rs))
+  made_from before [] n m = subst (λ l. HasMade run.program path (n + 0) (outcome l)) (sym (append-nil before)) (subst (λ k. HasMade run.program path k (outcome before)) (omega arith) m)
   made_from before (r ∷ rs) n m =
       let one : ℕ = one_spawn (next_operation run path start before) in
       let rest : ℕ = spawned_from (next_operation run path start) (before ++ r ∷ []) rs in
       let here = made_from (before ++ r ∷ []) rs (n + one) (made_more run.program path r n (outcome before) (outcome (before ++ r ∷ [])) m (one_more before r)) in
-      subst (λ k. Made run.program path k (outcome (before ++ r ∷ rs))) (omega arith) (subst (λ l. Made run.program path (n + one + rest) (outcome l)) (append_assoc before (r ∷ []) rs) here)
+      subst (λ k. HasMade run.program path k (outcome (before ++ r ∷ rs))) (omega arith) (subst (λ l. HasMade run.program path (n + one + rest) (outcome l)) (append_assoc before (r ∷ []) rs) here)
 
-  pub made_by : (rs : List Reply) → Made run.program path (spawned_by (next_operation run path start) rs) (outcome rs)
-  made_by rs = subst (λ k. Made run.program path k (outcome rs)) (omega arith) (made_from [] rs 0 (made_first (slice_get run.program.tasks start.code)))
+  pub made_by : (rs : List Reply) → HasMade run.program path (spawned_by (next_operation run path start) rs) (outcome rs)
+  made_by rs = subst (λ k. HasMade run.program path k (outcome rs)) (omega arith) (made_from [] rs 0 (made_first (slice_get run.program.tasks start.code)))
 
   -- what is closed stays so
   closed_more : (r : Reply) (o o' : Out) → Closed o → OneMore run.program r o o' → Closed o'

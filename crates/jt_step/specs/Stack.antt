@@ -19,7 +19,7 @@ use Rattle.jt_syntax.specs.declared.operator.ComparisonOperator.{ComparisonOpera
 use Rattle.jt_program.specs.Plan.{Plan, Plans, Operands, Comparisons, Choices, Pieces, BodyPlan, ProgramPlan}
 use Rattle.jt_program.specs.Plan as plan
 use Rattle.jt_program.specs.View.{plan_of, arm_plan, piece_plan, plans, operand_plan, operands_of, comparisons_of, choices_of, pieces_of}
-use Rattle.jt_meaning.specs.State.{State, Out, Gave, Returned, Broke, Continued, Faulted, Unfit, Step, bind, ask, turn, renew, renew_with, Given, given}
+use Rattle.jt_meaning.specs.State.{State, Out, Gave, Returned, Broke, Continued, Faulted, Unfit, TaskPart, bind, ask, turn, renew, renew_with, Given, given}
 use Rattle.jt_meaning.specs.State as state
 use Rattle.jt_meaning.specs.Values.{operated, unary_of, compared_by, shown, shown_with}
 use Rattle.jt_meaning.specs.Meaning.{gives, synced, noticed, wait_all, unless_failed, assigned, defined, test, holds, looped, left, Later, whole, range, bounds, turns_from, call, run, run_operands, run_comparisons, run_connection, run_choices, run_all, run_arguments, run_pieces, go, ended}
@@ -53,7 +53,7 @@ later_of (loop.While first count c b) = whole (plan.while first count (plan_of c
 later_of (loop.Range first count b i last) = range first count (plan_of b.now) (i +ℤ pos 1) last
 
 -- how a part ended
-abbrev pub exits : Exit → Value → Step
+abbrev pub exits : Exit → Value → TaskPart
 exits exit.Value v s = Gave v s
 exits exit.Return v s = Returned v s
 
@@ -72,22 +72,22 @@ pieces_in ps = pieces_of (map piece_plan ps)
 
 module _ (program : ProgramPlan) where
   -- a tree, by what its parts do
-  abbrev pub does : Plan → Step
+  abbrev pub does : Plan → TaskPart
   does = run program (go program)
 
-  abbrev pub does_operands : Value → Operands → Step
+  abbrev pub does_operands : Value → Operands → TaskPart
   does_operands = run_operands program (go program)
 
-  abbrev pub does_comparisons : Value → Comparisons → Step
+  abbrev pub does_comparisons : Value → Comparisons → TaskPart
   does_comparisons = run_comparisons program (go program)
 
   -- the turn of a loop that begins next
-  abbrev pub again : Loop → Step
+  abbrev pub again : Loop → TaskPart
   again (loop.While first count c b) = turn (λ s. looped (go program (later_of (loop.While first count c b))) (does (plan_of b.now) (renew first count s)))
   again (loop.Range first count b i last) = turn (λ s. looped (go program (later_of (loop.Range first count b i last))) (does (plan_of b.now) (renew_with first count (Int i) s)))
 
   -- a call that begins next
-  abbrev pub calls : ℕ → List Value → Step
+  abbrev pub calls : ℕ → List Value → TaskPart
   calls f = call (go program) (slice_get program.functions f)
 
   -- what a frame makes of how its part ends
@@ -123,7 +123,7 @@ module _ (program : ProgramPlan) where
   resume fs o = ended (through fs o)
 
   -- what is left to do at a mode, with these frames
-  abbrev pub doing : List Frame → Mode → Step
+  abbrev pub doing : List Frame → Mode → TaskPart
   doing fs (mode.Begins e) s = bind (ask op.Begin None s) (λ v s. resume fs (go program (whole (plan_of e.now)) s))
   doing fs (mode.Eval e) s = resume fs (does (plan_of e.now) s)
   doing fs (mode.Gave v) s = resume fs (Gave v s)
@@ -287,7 +287,7 @@ pub record Follows (program : ProgramPlan) (m : Evaluator) (md : Mode) (m' : Eva
   pub turns : m'.turns ≡ m.turns
 
 -- one evaluator does what the other does once this frame has had the end of its part
-pub record Hands (program : ProgramPlan) (m : Evaluator) (f : Frame) (o : Step) (m' : Evaluator) (md' : Mode) : Type 0 where
+pub record Hands (program : ProgramPlan) (m : Evaluator) (f : Frame) (o : TaskPart) (m' : Evaluator) (md' : Mode) : Type 0 where
   pub same : (rs : List Reply) → at program m' md' rs ≡ resume program m.frames.items (after program f (o (state_of m rs)))
   pub less : work m' md' < 1 + frame_weight f + frames_weight m.frames.items
   pub turns : m'.turns ≡ m.turns

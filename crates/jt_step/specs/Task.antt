@@ -62,7 +62,7 @@ seen t = record {
 }
 
 -- the evaluator is where the meaning is after the notes that it has had
-pub record Holds (t : TaskState) : Type 0 where
+pub record IsCurrent (t : TaskState) : Type 0 where
   pub same : t.failed ≡ false → (rs : List Reply) → at (program_plan t.program.now) t.evaluator t.mode (unused t.log.items t.used ++ rs) ≡ task (run_of t) t.path t.start (map note_reply t.log.items ++ rs)
   pub within : t.used ≤ length t.log.items
   pub few : t.failed ≡ false → t.evaluator.turns ≤ t.limits.turns

@@ -58,7 +58,7 @@ pub struct TaskRun<'p> {
 
 impl<'p> Model for TaskRun<'p> {
     ghost use Rattle.jt_step.specs.Codes.{Label, coded_program};
-    ghost use Rattle.jt_step.specs.Task.{Holds, seen};
+    ghost use Rattle.jt_step.specs.Task.{IsCurrent, seen};
     ghost use Rattle.jt_step.specs.Tasks.{Task};
     ghost use Rattle.std.specs.Coded.{Coded, codes};
 
@@ -68,7 +68,7 @@ impl<'p> Model for TaskRun<'p> {
 
     ghost view = { λ t. seen t.state.value };
 
-    ghost invariant = { λ t. Holds t.state.value };
+    ghost invariant = { λ t. IsCurrent t.state.value };
 }
 
 /// The pool of a task that is made in this way, where `parent` is the pool of its maker.

@@ -14,7 +14,7 @@ use Rattle.jt_forms.specs.Built.{unbuilt}
 use Rattle.jt_naming.specs.declared.rules.Broken.{Broken}
 use Rattle.jt_naming.specs.declared.rules.Rule.{Rule}
 use Rattle.jt_naming.specs.declared.rules.Rule.TheVariants as rule
-use Rattle.jt_naming.specs.Scripts.{Among, Breaks, BreaksNone, broken_rules}
+use Rattle.jt_naming.specs.Scripts.{IsOneOf, Breaks, BreaksNone, broken_rules}
 use Rattle.jt_syntax.specs.Tree.{TopTree}
 use Rattle.jt_syntax.specs.declared.token.Token.{Token}
 use Rattle.jt_tool.specs.declared.report.Refusal.{Refusal}
@@ -54,8 +54,8 @@ one_script bytes ts us tops others is other =
     lines_only ts tops others is.parsed (subst P (sym same) other.parsed)
 
 -- a script that breaks no rule of names breaks none that counts
-none_among : (b : Broken) (bs : List Broken) → bs ≡ [] → Among b bs → ⊥
-none_among b bs none among = subst (Among b) none among
+none_among : (b : Broken) (bs : List Broken) → bs ≡ [] → IsOneOf b bs → ⊥
+none_among b bs none among = subst (IsOneOf b) none among
 
 none_broken : (tops : List TopTree) (b : Broken) → BreaksNone tops → Breaks tops b → ⊥
 none_broken tops b none breaks = none_among b (broken_rules tops) none breaks.among

@@ -6,8 +6,8 @@ use Rattle.clap.proofs.OnLiterals.{clap_on_literals}
 use Rattle.clap.specs.declared.parser.matches.ArgMatches.{ArgMatches}
 use Rattle.jt_base.specs.Limits.{default_limits}
 use Rattle.jt_base.specs.declared.run.Sizes.{Sizes}
-use Rattle.jt_words.specs.Commands.{Answers, IsDraws, IsGen, IsRun, draws_choices, gen_choices, run_choices}
-use Rattle.jt_words.specs.Options.{Choice, Given, Spell, Text, is_given, value_of}
+use Rattle.jt_words.specs.Commands.{Exactly, AreDrawsOptions, AreGenOptions, AreRunOptions, draws_choices, gen_choices, run_choices}
+use Rattle.jt_words.specs.Options.{Choice, GivenOption, Spell, Text, is_given, value_of}
 use Rattle.jt_words.specs.Parser.{IsPlain, Parsed}
 use Rattle.jt_words.specs.Values.{ancestry_named, default_seed, number, one_worker, or_default, required, seed_named, sizes_named}
 use Rattle.jt_words.specs.declared.ancestry.Ancestor.{Ancestor}
@@ -31,30 +31,30 @@ gen_is_plain = (refl, refl)
 -- ---- options
 
 -- no words are two lists of options
-one_spelling : (name : Text) (choices : List Choice) (words : List Text) (a b : List Given) → IsPlain name choices → Spell choices [] a words → Spell choices [] b words → a ≡ b
+one_spelling : (name : Text) (choices : List Choice) (words : List Text) (a b : List GivenOption) → IsPlain name choices → Spell choices [] a words → Spell choices [] b words → a ≡ b
 one_spelling name choices words a b plain first second =
     ap (λ o. unwrap_or o a) (sym (spelled_back choices words a plain.1 first) ∙ spelled_back choices words b plain.1 second)
 
 -- what a reader makes of the value of an option is one thing
-one : {X : Type 0} (f : Option Text → Option X) (name : Text) (xs ys : List Given) (x y : X) → xs ≡ ys
+one : {X : Type 0} (f : Option Text → Option X) (name : Text) (xs ys : List GivenOption) (x y : X) → xs ≡ ys
     → f (value_of name xs) ≡ Some x → f (value_of name ys) ≡ Some y → x ≡ y
 one f name xs ys x y same first second = ap (λ o. unwrap_or o x) (sym first ∙ ap (λ o. f (value_of name o)) same ∙ second)
 
 -- what is made of clap's value is what is made of the option's
-read : {X : Type 0} (m : ArgMatches) (options : List Given) (f : Option Text → Option X) (name : Text) {o : Option X} {x : X}
+read : {X : Type 0} (m : ArgMatches) (options : List GivenOption) (f : Option Text → Option X) (name : Text) {o : Option X} {x : X}
     → ((name : Text) → first_value (found_of m) name ≡ value_of name options)
     → o ≡ f (first_value (found_of m) name) → o ≡ Some x → f (value_of name options) ≡ Some x
 read m options f name values is e = ap f (sym (values name)) ∙ sym is ∙ e
 
 -- and the other way round
-read_back : {X : Type 0} (m : ArgMatches) (options others : List Given) (f : Option Text → Option X) (name : Text) {o : Option X} {x : X}
+read_back : {X : Type 0} (m : ArgMatches) (options others : List GivenOption) (f : Option Text → Option X) (name : Text) {o : Option X} {x : X}
     → ((name : Text) → first_value (found_of m) name ≡ value_of name options) → others ≡ options
     → o ≡ f (first_value (found_of m) name) → f (value_of name others) ≡ Some x → o ≡ Some x
 read_back m options others f name values same is e = is ∙ ap f (values name) ∙ ap (λ o. f (value_of name o)) (sym same) ∙ e
 
 -- ---- run and trace
 
-pub one_run : (words : List Text) (a b : RunOptions) → IsRun words a → IsRun words b → a ≡ b
+pub one_run : (words : List Text) (a b : RunOptions) → AreRunOptions words a → AreRunOptions words b → a ≡ b
 one_run words a b first second =
     let same = one_spelling (codes "run") run_choices words first.options second.options run_is_plain first.spell second.spell in
     ap (λ x. record a { sizes = x }) (one (or_default one_worker sizes_named) (codes "threads") _ _ a.sizes b.sizes same first.threads second.threads)
@@ -72,7 +72,7 @@ pub run_answered : (words : List Text) (m : ArgMatches) (r : Option RunOptions) 
     → events ≡ or_default default_limits.events (number 1 262144) (first_value (found_of m) (codes "max-events"))
     → IfSome r (λ r. (sizes ≡ Some r.sizes) × (seed ≡ Some r.seeds.words) × (picks ≡ Some r.picks) × (turns ≡ Some r.limits.turns) × (events ≡ Some r.limits.events))
     → IfNone r ((r : RunOptions) → sizes ≡ Some r.sizes → seed ≡ Some r.seeds.words → picks ≡ Some r.picks → turns ≡ Some r.limits.turns → events ≡ Some r.limits.events → ⊥)
-    → Answers (IsRun words) r
+    → Exactly (AreRunOptions words) r
 run_answered words m (Some r) sizes seed picks turns events (options, spell, values, given) sizes_is seed_is picks_is turns_is events_is some none =
     record {
       options = options;
@@ -94,7 +94,7 @@ run_answered words m None sizes seed picks turns events (options, spell, values,
 
 -- ---- draws
 
-pub one_draws : (words : List Text) (a b : DrawsOptions) → IsDraws words a → IsDraws words b → a ≡ b
+pub one_draws : (words : List Text) (a b : DrawsOptions) → AreDrawsOptions words a → AreDrawsOptions words b → a ≡ b
 one_draws words a b first second =
     let same = one_spelling (codes "draws") draws_choices words first.options second.options draws_is_plain first.spell second.spell in
     ap (λ x. record a { seeds = record { words = x } }) (one (or_default default_seed seed_named) (codes "seed") _ _ a.seeds.words b.seeds.words same first.seed second.seed)
@@ -108,7 +108,7 @@ pub draws_answered : (words : List Text) (m : ArgMatches) (r : Option DrawsOptio
     → ancestry ≡ or_default [] ancestry_named (first_value (found_of m) (codes "path"))
     → IfSome r (λ d. (seed ≡ Some d.seeds.words) × (count ≡ Some d.count) × (ancestry ≡ Some d.ancestry))
     → IfNone r ((d : DrawsOptions) → seed ≡ Some d.seeds.words → count ≡ Some d.count → ancestry ≡ Some d.ancestry → ⊥)
-    → Answers (IsDraws words) r
+    → Exactly (AreDrawsOptions words) r
 draws_answered words m (Some d) seed count ancestry (options, spell, values, given) seed_is count_is ancestry_is some none = record {
   options = options;
   spell = spell;
@@ -125,7 +125,7 @@ draws_answered words m None seed count ancestry (options, spell, values, given) 
 
 -- ---- gen
 
-pub one_gen : (words : List Text) (a b : GenOptions) → IsGen words a → IsGen words b → a ≡ b
+pub one_gen : (words : List Text) (a b : GenOptions) → AreGenOptions words a → AreGenOptions words b → a ≡ b
 one_gen words a b first second =
     let same = one_spelling (codes "gen") gen_choices words first.options second.options gen_is_plain first.spell second.spell in
     ap (λ x. record a { size = x }) (one (required (number 1 80)) (codes "size") _ _ a.size b.size same first.size second.size)
@@ -137,7 +137,7 @@ pub gen_answered : (words : List Text) (m : ArgMatches) (r : Option GenOptions) 
     → text ≡ is_some (matched_of (found_of m) (codes "text"))
     → IfSome r (λ g. (size ≡ Some g.size) × (text ≡ g.text))
     → IfNone r ((g : GenOptions) → size ≡ Some g.size → ⊥)
-    → Answers (IsGen words) r
+    → Exactly (AreGenOptions words) r
 gen_answered words m (Some g) size text (options, spell, values, given) size_is text_is some none = record {
   options = options;
   spell = spell;

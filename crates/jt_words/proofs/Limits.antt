@@ -5,7 +5,7 @@ use Rattle.std.proofs.lemmas.Bool.Decides.{leb_tells}
 use Rattle.jt_base.specs.declared.run.Sizes.{Sizes}
 use Rattle.jt_words.specs.Options.{Text, value_of}
 use Rattle.jt_words.specs.Values.{ancestor_named, ancestry_named, each, fields, number, number_named, one_worker, or_default, required, short, sizes_in, sizes_named, sizes_with, total, within}
-use Rattle.jt_words.specs.Commands.{IsCommand, IsRun, IsRunWithinLimits, IsWithinLimits}
+use Rattle.jt_words.specs.Commands.{IsCommand, AreRunOptions, IsRunWithinLimits, IsWithinLimits}
 use Rattle.jt_words.specs.declared.ancestry.Ancestor.{Ancestor}
 use Rattle.jt_words.specs.declared.command.Command.{Command}
 use Rattle.jt_words.specs.declared.command.Command.TheVariants.{Run, Trace, Check, Draws, Gen}
@@ -82,7 +82,7 @@ default_ancestry (Some text) ancestors e = short_in_range (each ancestor_named (
 
 -- ---- commands
 
-run_within : (words : List Text) (run : RunOptions) → IsRun words run → IsRunWithinLimits run
+run_within : (words : List Text) (run : RunOptions) → AreRunOptions words run → IsRunWithinLimits run
 run_within words run is =
     let sizes = default_sizes (value_of (codes "threads") is.options) run.sizes is.threads in
     record {

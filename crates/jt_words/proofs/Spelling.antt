@@ -7,7 +7,7 @@ use Rattle.std.proofs.lemmas.Slice.Eq.{bytes_eq-Decides}
 use Rattle.std.proofs.lemmas.Bool.Decides.{eqb_tells}
 use Rattle.clap.specs.Lexer.{long_of, has_byte, name_and_value}
 use Rattle.clap.specs.declared.parser.matches.ArgMatches.{ArgMatches}
-use Rattle.jt_words.specs.Options.{BeginsWithHyphen, Choice, Given, Spell, StartWith, Text, is_given, takes_value}
+use Rattle.jt_words.specs.Options.{BeginsWithHyphen, Choice, GivenOption, Spell, StartWith, Text, is_given, takes_value}
 use Rattle.jt_words.specs.Parser.{Parsed, is_option_name, is_readable}
 use Rattle.jt_words.proofs.Walking.{go_on, met, named, next, options_from, options_of, value}
 use Rattle.jt_words.proofs.Walks.{ParsedAs, some≢none}
@@ -175,7 +175,7 @@ known_name (m ∷ ms) n t h k = by (bytes_eq m.name n) (bytes_eq-Decides m.name 
     by false same e ih = ih e
 
 -- an option that is held is the last of those before
-lazy : (choices : List Choice) (done : List Given) (p : Text × Text) (words : List Text)
+lazy : (choices : List Choice) (done : List GivenOption) (p : Text × Text) (words : List Text)
     → options_from choices done (next (Some p)) words ≡ cond (is_given p.0 done) None (options_from choices (done ++ (p.0, Some p.1) ∷ []) (next None) words)
 lazy choices done p [] = refl
 lazy choices done p (w ∷ ws) = by (is_given p.0 done)
@@ -188,18 +188,18 @@ lazy choices done p (w ∷ ws) = by (is_given p.0 done)
 -- ---- from the words to the options
 
 module _ (choices : List Choice) where
-  abbrev Finds : List Given → List Given → List Text → Type 0
-  Finds done options words = (new : List Given) × (options ≡ done ++ new) × Spell choices done new words
+  abbrev Finds : List GivenOption → List GivenOption → List Text → Type 0
+  Finds done options words = (new : List GivenOption) × (options ≡ done ++ new) × Spell choices done new words
 
-  abbrev FindsValue : List Given → List Given → Text → List Text → Type 0
-  FindsValue done options n words = (v : Text) × (rest : List Text) × (new : List Given) × (words ≡ v ∷ rest) × (BeginsWithHyphen v → ⊥) × (is_given n done ≡ false)
+  abbrev FindsValue : List GivenOption → List GivenOption → Text → List Text → Type 0
+  FindsValue done options n words = (v : Text) × (rest : List Text) × (new : List GivenOption) × (words ≡ v ∷ rest) × (BeginsWithHyphen v → ⊥) × (is_given n done ≡ false)
       × (options ≡ (done ++ (n, Some v) ∷ []) ++ new) × Spell choices (done ++ (n, Some v) ∷ []) new rest
 
   abbrev Reads : List Text → Type 0
-  Reads words = (done options : List Given) → options_from choices done (next None) words ≡ Some options → Finds done options words
+  Reads words = (done options : List GivenOption) → options_from choices done (next None) words ≡ Some options → Finds done options words
 
   abbrev ReadsValue : List Text → Type 0
-  ReadsValue words = (done options : List Given) (n : Text) → options_from choices done (value n) words ≡ Some options → FindsValue done options n words
+  ReadsValue words = (done options : List GivenOption) (n : Text) → options_from choices done (value n) words ≡ Some options → FindsValue done options n words
 
   reads_option : (w : Text) (ws : List Text) → Reads ws → ReadsValue ws → Reads (w ∷ ws)
   reads_option w ws ih value_ih done options is = by (long_of w) refl is
@@ -249,11 +249,11 @@ module _ (choices : List Choice) where
 
   -- ---- and from the options to the words
 
-  abbrev Writes : List Given → List Given → List Text → Type 0
+  abbrev Writes : List GivenOption → List GivenOption → List Text → Type 0
   Writes done new words = (list_all is_readable words ≡ true) × (options_from choices done (next None) words ≡ Some (done ++ new))
 
   module _ (plain_names : list_all (λ (choice : Choice). is_option_name choice.name) choices ≡ true) where
-    writes_apart : (done new : List Given) (words rest : List Text) (n v : Text) → words ≡ (codes "--" ++ n) ∷ v ∷ rest → (BeginsWithHyphen v → ⊥) → takes_value choices n ≡ Some true
+    writes_apart : (done new : List GivenOption) (words rest : List Text) (n v : Text) → words ≡ (codes "--" ++ n) ∷ v ∷ rest → (BeginsWithHyphen v → ⊥) → takes_value choices n ≡ Some true
         → is_given n done ≡ false → Writes (done ++ (n, Some v) ∷ []) new rest → Writes done ((n, Some v) ∷ new) words
     writes_apart done new words rest n v is plain has once (read, ih) =
         let name = known_name choices n true plain_names has in
@@ -267,7 +267,7 @@ module _ (choices : List Choice) where
               ∙ ih ∙ ap Some (append_assoc done ((n, Some v) ∷ []) new),
         )
 
-    writes_joined : (done new : List Given) (words rest : List Text) (n v : Text) → words ≡ (codes "--" ++ (n ++ (codes "=" ++ v))) ∷ rest → takes_value choices n ≡ Some true
+    writes_joined : (done new : List GivenOption) (words rest : List Text) (n v : Text) → words ≡ (codes "--" ++ (n ++ (codes "=" ++ v))) ∷ rest → takes_value choices n ≡ Some true
         → is_given n done ≡ false → Writes (done ++ (n, Some v) ∷ []) new rest → Writes done ((n, Some v) ∷ new) words
     writes_joined done new words rest n v is has once (read, ih) =
         let name = known_name choices n true plain_names has in (
@@ -279,7 +279,7 @@ module _ (choices : List Choice) where
               ∙ ih ∙ ap Some (append_assoc done ((n, Some v) ∷ []) new),
         )
 
-    writes_flag : (done new : List Given) (words rest : List Text) (n : Text) → words ≡ (codes "--" ++ n) ∷ rest → takes_value choices n ≡ Some false
+    writes_flag : (done new : List GivenOption) (words rest : List Text) (n : Text) → words ≡ (codes "--" ++ n) ∷ rest → takes_value choices n ≡ Some false
         → is_given n done ≡ false → Writes (done ++ (n, None) ∷ []) new rest → Writes done ((n, None) ∷ new) words
     writes_flag done new words rest n is has once (read, ih) =
         let name = known_name choices n false plain_names has in (
@@ -291,14 +291,14 @@ module _ (choices : List Choice) where
               ∙ ih ∙ ap Some (append_assoc done ((n, None) ∷ []) new),
         )
 
-    writes : (done new : List Given) (words : List Text) → Spell choices done new words → Writes done new words
+    writes : (done new : List GivenOption) (words : List Text) → Spell choices done new words → Writes done new words
     writes done [] words is = (ap (list_all is_readable) is, ap (options_from choices done (next None)) is ∙ ap Some (sym (append-nil done)))
     writes done ((n, Some v) ∷ new) words (rest, inl (is, plain), has, once, spell) = writes_apart done new words rest n v is plain has once (writes (done ++ (n, Some v) ∷ []) new rest spell)
     writes done ((n, Some v) ∷ new) words (rest, inr is, has, once, spell) = writes_joined done new words rest n v is has once (writes (done ++ (n, Some v) ∷ []) new rest spell)
     writes done ((n, None) ∷ new) words (rest, is, has, once, spell) = writes_flag done new words rest n is has once (writes (done ++ (n, None) ∷ []) new rest spell)
 
 -- the options of the words are the function's, where their names are plain
-pub spelled : (choices : List Choice) (words : List Text) (options : List Given) → options_of choices words ≡ Some options → Spell choices [] options words
+pub spelled : (choices : List Choice) (words : List Text) (options : List GivenOption) → options_of choices words ≡ Some options → Spell choices [] options words
 spelled choices words options is = by (list_all is_readable words) refl is
   where
     by : (b : Bool) → list_all is_readable words ≡ b → cond b (options_from choices [] (next None) words) None ≡ Some options → Spell choices [] options words
@@ -307,7 +307,7 @@ spelled choices words options is = by (list_all is_readable words) refl is
         let (new, all, spell) = (reads choices words e).0 [] options h in
         subst (λ o. Spell choices [] o words) (sym all) spell
 
-pub spelled_back : (choices : List Choice) (words : List Text) (options : List Given) → list_all (λ (choice : Choice). is_option_name choice.name) choices ≡ true
+pub spelled_back : (choices : List Choice) (words : List Text) (options : List GivenOption) → list_all (λ (choice : Choice). is_option_name choice.name) choices ≡ true
     → Spell choices [] options words → options_of choices words ≡ Some options
 spelled_back choices words options plain_names spell =
     let (read, is) = writes choices plain_names [] options words spell in

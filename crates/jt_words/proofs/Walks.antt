@@ -24,7 +24,7 @@ use Rattle.clap.specs.declared.error.kind.ErrorKind.{ErrorKind}
 use Rattle.clap.specs.declared.error.kind.ErrorKind.TheVariants as kind
 use Rattle.clap.proofs.FaultLemmas.{leaf_fault}
 use Rattle.clap.proofs.WalkLemmas.{first_value-rows}
-use Rattle.jt_words.specs.Options.{Choice, Given, Text, is_given, takes_value, value_of}
+use Rattle.jt_words.specs.Options.{Choice, GivenOption, Text, is_given, takes_value, value_of}
 use Rattle.jt_words.specs.Parser.{flag_rule, is_readable, option_rule, parser_of, rule_told}
 use Rattle.jt_words.proofs.Walking.{Waiting, added, go_on, met, named, next, options_from, options_of, value, with_held}
 
@@ -49,7 +49,7 @@ abbrev pub values_of : Option Text → List Text
 values_of None = []
 values_of (Some v) = v ∷ []
 
-abbrev pub row : Given → Row
+abbrev pub row : GivenOption → Row
 row o = record { id = o.0; values = values_of o.1; count = None; source = Some source.CommandLine; reading = reading.AsWritten }
 
 filled : (choices : List Choice) → simple.filled_from 1 (map rule_told choices) ≡ map rule_by choices
@@ -83,7 +83,7 @@ by_id (k ∷ ks) n = go (bytes_eq k.name n) (bytes_eq-Decides k.name n).0 (by_id
 
 -- ---- rows
 
-has_row_is : (n : Text) (done : List Given) → has_row n (map row done) ≡ is_given n done
+has_row_is : (n : Text) (done : List GivenOption) → has_row n (map row done) ≡ is_given n done
 has_row_is n [] = refl
 has_row_is n (o ∷ os) = ap (λ b. bytes_eq o.0 n || b) (has_row_is n os)
 
@@ -96,12 +96,12 @@ absent n change missing (r ∷ rs) e = go (bytes_eq r.id n) e (absent n change m
     go true e h = absurd (true≢false e)
     go false e h = ap (λ x. r ∷ x) (h e)
 
-map_more : (done : List Given) (o : Given) → map row done ++ row o ∷ [] ≡ map row (done ++ o ∷ [])
+map_more : (done : List GivenOption) (o : GivenOption) → map row done ++ row o ∷ [] ≡ map row (done ++ o ∷ [])
 map_more [] o = refl
 map_more (d ∷ ds) o = ap (λ x. row d ∷ x) (map_more ds o)
 
 -- a use of an option that has none
-used_once : (done : List Given) (n : Text) (v : Option Text) → is_given n done ≡ false
+used_once : (done : List GivenOption) (n : Text) (v : Option Text) → is_given n done ≡ false
     → used (rule n (is_some v)) (values_of v) (map row done) ≡ map row (done ++ (n, v) ∷ [])
 used_once done n v e = by v
   where
@@ -208,7 +208,7 @@ or_nil (k ∷ ks) b e = e
 twice_fails : (b : Bool) → b ≡ true → twice b ≡ [] → ⊥
 twice_fails b e none = some_kind (sym (ap twice e) ∙ none)
 
-uses : (done : List Given) (n : Text) (v : Option Text) → use_fault false (rule n (is_some v)) (values_of v) (map row done) ≡ twice (is_given n done)
+uses : (done : List GivenOption) (n : Text) (v : Option Text) → use_fault false (rule n (is_some v)) (values_of v) (map row done) ≡ twice (is_given n done)
 uses done n v = by v
   where
     go : (b : Bool) → or_else (cond (b && true) (kind.ArgumentConflict ∷ []) []) [] ≡ twice b
@@ -232,10 +232,10 @@ module _ (name : Text) (choices : List Choice) where
   pending None = None
   pending (Some p) = Some (p.0, p.1 ∷ [])
 
-  abbrev held_at : List Given → Option (Text × Text) → Held
+  abbrev held_at : List GivenOption → Option (Text × Text) → Held
   held_at done p = record { rows = map row done; pending = pending p; skip = 0 }
 
-  abbrev walk_at : List Given → Waiting → Walk
+  abbrev walk_at : List GivenOption → Waiting → Walk
   walk_at done (next p) = record (walk_from (held_at done p)) { waiting = clap.idle }
   walk_at done (value n) = record (walk_from (record { rows = map row done; pending = Some (n, []); skip = 0 })) { waiting = clap.option n }
 
@@ -249,7 +249,7 @@ module _ (name : Text) (choices : List Choice) where
   abbrev kinds : Walk → List Text → Kinds
   kinds w words = or_else (walk_fault s [] w words) (or_else [] (last (end_of w words)))
 
-  abbrev Fits : Walk → List Text → Option (List Given) → Type 0
+  abbrev Fits : Walk → List Text → Option (List GivenOption) → Type 0
   Fits w words None = kinds w words ≡ [] → ⊥
   Fits w words (Some done) = (kinds w words ≡ []) × (finished c (end_of w words) ≡ map row done)
 
@@ -260,11 +260,11 @@ module _ (name : Text) (choices : List Choice) where
   IsKnown (value n) = takes_value choices n ≡ Some true
 
   -- the option that is held is used
-  abbrev Settles : List Given → Option (Text × Text) → Option (List Given) → Type 0
+  abbrev Settles : List GivenOption → Option (Text × Text) → Option (List GivenOption) → Type 0
   Settles done p None = settle_fault c false (held_at done p) ≡ [] → ⊥
   Settles done p (Some d) = (settle_fault c false (held_at done p) ≡ []) × (settled c (held_at done p) ≡ held_at d None)
 
-  settles : (done : List Given) (p : Option (Text × Text)) → IsKnown (next p) → Settles done p (with_held done p)
+  settles : (done : List GivenOption) (p : Option (Text × Text)) → IsKnown (next p) → Settles done p (with_held done p)
   settles done None k = (refl, refl)
   settles done (Some o) k = go (is_given o.0 done) refl
     where
@@ -283,7 +283,7 @@ module _ (name : Text) (choices : List Choice) where
       )
 
   -- a value is wanted
-  unsettled : (done : List Given) (n : Text) → takes_value choices n ≡ Some true → settle_fault c false (walk_at done (value n)).held ≡ kind.InvalidValue ∷ []
+  unsettled : (done : List GivenOption) (n : Text) → takes_value choices n ≡ Some true → settle_fault c false (walk_at done (value n)).held ≡ kind.InvalidValue ∷ []
   unsettled done n k = ap (λ a. option_map_or (λ a. use_fault false a [] (map row done)) a []) (by_id choices n ∙ ap (option_map (rule n)) k)
 
   -- ---- one word
@@ -299,14 +299,14 @@ module _ (name : Text) (choices : List Choice) where
   strays : (h : Held) → step_fault s 1 h clap.value ≡ kind.UnknownArgument ∷ []
   strays h = ap (λ a. option_map_or (λ a. Rattle.clap.specs.Faults.positional_fault c false a h) a (stray_fault s)) (no_index choices)
 
-  turn_stray : (done : List Given) (p : Option (Text × Text)) (x : Text) → Looks x → long_of x ≡ None
+  turn_stray : (done : List GivenOption) (p : Option (Text × Text)) (x : Text) → Looks x → long_of x ≡ None
       → turn_fault s [] (walk_at done (next p)) x ≡ step_fault s 1 (held_at done p) clap.value
   turn_stray done p x l e = rw (l.no_dashes, e, l.plain e) refl
 
-  turn_value : (done : List Given) (n : Text) (x : Text) → Looks x → long_of x ≡ None → turn_fault s [] (walk_at done (value n)) x ≡ []
+  turn_value : (done : List GivenOption) (n : Text) (x : Text) → Looks x → long_of x ≡ None → turn_fault s [] (walk_at done (value n)) x ≡ []
   turn_value done n x l e = rw (l.no_dashes, e, l.plain e) refl
 
-  walked_value : (done : List Given) (n : Text) (x : Text) → Looks x → long_of x ≡ None → takes_value choices n ≡ Some true
+  walked_value : (done : List GivenOption) (n : Text) (x : Text) → Looks x → long_of x ≡ None → takes_value choices n ≡ Some true
       → walked c [] (walk_at done (value n)) x ≡ walk_at done (next (Some (n, x)))
   unfolding walked
   walked_value done n x l e k =
@@ -315,21 +315,21 @@ module _ (name : Text) (choices : List Choice) where
       rw (l.no_dashes, e, l.plain e, found, same) refl
 
   -- the option isn't the command's
-  turn_unknown : (done : List Given) (p : Option (Text × Text)) (x n : Text) (v : Option Text) → Looks x → long_of x ≡ Some (n, v) → takes_value choices n ≡ None
+  turn_unknown : (done : List GivenOption) (p : Option (Text × Text)) (x n : Text) (v : Option Text) → Looks x → long_of x ≡ Some (n, v) → takes_value choices n ≡ None
       → turn_fault s [] (walk_at done (next p)) x ≡ kind.UnknownArgument ∷ []
   turn_unknown done p x n v l e has =
       let found : arg_by_long c n ≡ None = found_long n None has in
       rw (l.no_dashes, e, found) refl
 
   -- a flag has a value
-  turn_unneeded : (done : List Given) (p : Option (Text × Text)) (x n v : Text) → Looks x → long_of x ≡ Some (n, Some v) → takes_value choices n ≡ Some false
+  turn_unneeded : (done : List GivenOption) (p : Option (Text × Text)) (x n v : Text) → Looks x → long_of x ≡ Some (n, Some v) → takes_value choices n ≡ Some false
       → turn_fault s [] (walk_at done (next p)) x ≡ kind.TooManyValues ∷ []
   turn_unneeded done p x n v l e has =
       let found : arg_by_long c n ≡ Some (rule n false) = found_long n (Some false) has in
       rw (l.no_dashes, e, found) refl
 
   -- an option with its value, or a flag without one, is used at once
-  turn_used : (done : List Given) (p : Option (Text × Text)) (x n : Text) (v : Option Text) → Looks x → long_of x ≡ Some (n, v) → takes_value choices n ≡ Some (is_some v)
+  turn_used : (done : List GivenOption) (p : Option (Text × Text)) (x n : Text) (v : Option Text) → Looks x → long_of x ≡ Some (n, v) → takes_value choices n ≡ Some (is_some v)
       → turn_fault s [] (walk_at done (next p)) x
       ≡ or_else (or_else (settle_fault c false (held_at done p)) (use_fault false (rule n (is_some v)) (values_of v) (settled c (held_at done p)).rows)) []
   turn_used done p x n (Some v) l e has =
@@ -339,7 +339,7 @@ module _ (name : Text) (choices : List Choice) where
       let found : arg_by_long c n ≡ Some (rule n false) = found_long n (Some false) has in
       rw (l.no_dashes, e, found) refl
 
-  walked_used : (done : List Given) (p : Option (Text × Text)) (x n : Text) (v : Option Text) → Looks x → long_of x ≡ Some (n, v) → takes_value choices n ≡ Some (is_some v)
+  walked_used : (done : List GivenOption) (p : Option (Text × Text)) (x n : Text) (v : Option Text) → Looks x → long_of x ≡ Some (n, v) → takes_value choices n ≡ Some (is_some v)
       → walked c [] (walk_at done (next p)) x ≡ walk_from (clap.reacted c (rule n (is_some v)) (values_of v) (held_at done p))
   unfolding walked
   walked_used done p x n (Some v) l e has =
@@ -350,13 +350,13 @@ module _ (name : Text) (choices : List Choice) where
       rw (l.no_dashes, e, found) refl
 
   -- a value is to come
-  turn_apart : (done : List Given) (p : Option (Text × Text)) (x n : Text) → Looks x → long_of x ≡ Some (n, None) → takes_value choices n ≡ Some true
+  turn_apart : (done : List GivenOption) (p : Option (Text × Text)) (x n : Text) → Looks x → long_of x ≡ Some (n, None) → takes_value choices n ≡ Some true
       → turn_fault s [] (walk_at done (next p)) x ≡ or_else (settle_fault c false (held_at done p)) []
   turn_apart done p x n l e has =
       let found : arg_by_long c n ≡ Some (rule n true) = found_long n (Some true) has in
       rw (l.no_dashes, e, found) refl
 
-  walked_apart : (done : List Given) (p : Option (Text × Text)) (x n : Text) → Looks x → long_of x ≡ Some (n, None) → takes_value choices n ≡ Some true
+  walked_apart : (done : List GivenOption) (p : Option (Text × Text)) (x n : Text) → Looks x → long_of x ≡ Some (n, None) → takes_value choices n ≡ Some true
       → walked c [] (walk_at done (next p)) x ≡ record (walk_from (record (settled c (held_at done p)) { pending = Some (n, []) })) { waiting = clap.option n }
   unfolding walked
   walked_apart done p x n l e has =
@@ -364,7 +364,7 @@ module _ (name : Text) (choices : List Choice) where
       rw (l.no_dashes, e, found) refl
 
   -- a value is wanted, and an option comes
-  turn_wanted : (done : List Given) (m x n : Text) (v : Option Text) → Looks x → long_of x ≡ Some (n, v) → takes_value choices m ≡ Some true
+  turn_wanted : (done : List GivenOption) (m x n : Text) (v : Option Text) → Looks x → long_of x ≡ Some (n, v) → takes_value choices m ≡ Some true
       → turn_fault s [] (walk_at done (value m)) x ≡ [] → ⊥
   turn_wanted done m x n v l e k none = by (takes_value choices n) refl v e
     where
@@ -396,18 +396,18 @@ module _ (name : Text) (choices : List Choice) where
   unfolding walk_fault
   fails w x ws bad none = bad (or_nil _ _ (or_nil _ _ none))
 
-  passes : (w after : Walk) (x : Text) (ws : List Text) (o : Option (List Given)) → turn_fault s [] w x ≡ [] → walked c [] w x ≡ after → Fits after ws o → Fits w (x ∷ ws) o
+  passes : (w after : Walk) (x : Text) (ws : List Text) (o : Option (List GivenOption)) → turn_fault s [] w x ≡ [] → walked c [] w x ≡ after → Fits after ws o → Fits w (x ∷ ws) o
   unfolding walk_fault
   passes w after x ws o good is fits = by o fits
     where
       same : kinds w (x ∷ ws) ≡ kinds after ws
       same = ap (λ t. or_else (or_else t (walk_fault s [] (walked c [] w x) ws)) (or_else [] (last (end_of (walked c [] w x) ws)))) good ∙ ap (λ a. kinds a ws) is
 
-      by : (o : Option (List Given)) → Fits after ws o → Fits w (x ∷ ws) o
+      by : (o : Option (List GivenOption)) → Fits after ws o → Fits w (x ∷ ws) o
       by None h = λ none. h (sym same ∙ none)
       by (Some d) h = (same ∙ h.0, ap (λ a. finished c (end_of a ws)) is ∙ h.1)
 
-  ends : (done : List Given) (p : Option (Text × Text)) (o : Option (List Given)) → Settles done p o → Fits (walk_at done (next p)) [] o
+  ends : (done : List GivenOption) (p : Option (Text × Text)) (o : Option (List GivenOption)) → Settles done p o → Fits (walk_at done (next p)) [] o
   unfolding walk_fault
   ends done p None bad = λ none. bad (or_nil _ _ none)
   ends done p (Some d) (good, is) =
@@ -418,12 +418,12 @@ module _ (name : Text) (choices : List Choice) where
         final,
       )
 
-  ends_wanted : (done : List Given) (n : Text) → takes_value choices n ≡ Some true → Fits (walk_at done (value n)) [] None
+  ends_wanted : (done : List GivenOption) (n : Text) → takes_value choices n ≡ Some true → Fits (walk_at done (value n)) [] None
   unfolding walk_fault
   ends_wanted done n k = λ none. some_kind (sym (unsettled done n k) ∙ or_nil _ _ none)
 
-  step_next : (done : List Given) (p : Option (Text × Text)) (x : Text) (ws : List Text) → list_all is_readable (x ∷ ws) ≡ true → IsKnown (next p)
-      → ((d : List Given) (w : Waiting) → IsKnown w → Fits (walk_at d w) ws (options_from choices d w ws))
+  step_next : (done : List GivenOption) (p : Option (Text × Text)) (x : Text) (ws : List Text) → list_all is_readable (x ∷ ws) ≡ true → IsKnown (next p)
+      → ((d : List GivenOption) (w : Waiting) → IsKnown w → Fits (walk_at d w) ws (options_from choices d w ws))
       → Fits (walk_at done (next p)) (x ∷ ws) (options_from choices done (next p) (x ∷ ws))
   step_next done p x ws read k again = by (with_held done p) (settles done p k) (long_of x) refl
     where
@@ -458,7 +458,7 @@ module _ (name : Text) (choices : List Choice) where
           at (Some false) has (Some u) long = not_unneeded n u long has
           at (Some false) has None long = unsettled_used n None bad long has
 
-      used_at_once : (d : List Given) → Settles done p (Some d) → (n : Text) (v : Option Text) → long_of x ≡ Some (n, v) → takes_value choices n ≡ Some (is_some v)
+      used_at_once : (d : List GivenOption) → Settles done p (Some d) → (n : Text) (v : Option Text) → long_of x ≡ Some (n, v) → takes_value choices n ≡ Some (is_some v)
           → Fits (walk_at done (next p)) (x ∷ ws) (go_on (added d (n, v)) (λ d w. options_from choices d w ws))
       used_at_once d (good, is) n v e has = at (is_given n d) refl
         where
@@ -476,14 +476,14 @@ module _ (name : Text) (choices : List Choice) where
               ∙ ap (λ rows. walk_from (record (held_at [] None) { rows = rows })) (used_once d n v given))
               (again (d ++ (n, v) ∷ []) (next None) tt)
 
-      value_to_come : (d : List Given) → Settles done p (Some d) → (n : Text) → long_of x ≡ Some (n, None) → takes_value choices n ≡ Some true
+      value_to_come : (d : List GivenOption) → Settles done p (Some d) → (n : Text) → long_of x ≡ Some (n, None) → takes_value choices n ≡ Some true
           → Fits (walk_at done (next p)) (x ∷ ws) (options_from choices d (value n) ws)
       value_to_come d (good, is) n e has = passes (walk_at done (next p)) (walk_at d (value n)) x ws _
           (turn_apart done p x n look e has ∙ ap (λ k. or_else k []) good)
           (walked_apart done p x n look e has ∙ ap (λ (h : Held). record (walk_from (record h { pending = Some (n, []) })) { waiting = clap.option n }) is)
           (again d (value n) has)
 
-      by : (o : Option (List Given)) → Settles done p o → (l : Option (Text × Option Text)) → long_of x ≡ l
+      by : (o : Option (List GivenOption)) → Settles done p o → (l : Option (Text × Option Text)) → long_of x ≡ l
           → Fits (walk_at done (next p)) (x ∷ ws) (met choices o l (λ d w. options_from choices d w ws))
       by None bad l e = fails (walk_at done (next p)) x ws (not_settled bad l e)
       by (Some d) good None e = fails (walk_at done (next p)) x ws (not_stray e)
@@ -497,8 +497,8 @@ module _ (name : Text) (choices : List Choice) where
           at (Some false) has (Some u) long = fails (walk_at done (next p)) x ws (not_unneeded n u long has)
           at (Some false) has None long = used_at_once d good n None long has
 
-  step_value : (done : List Given) (n x : Text) (ws : List Text) → list_all is_readable (x ∷ ws) ≡ true → IsKnown (value n)
-      → ((d : List Given) (w : Waiting) → IsKnown w → Fits (walk_at d w) ws (options_from choices d w ws))
+  step_value : (done : List GivenOption) (n x : Text) (ws : List Text) → list_all is_readable (x ∷ ws) ≡ true → IsKnown (value n)
+      → ((d : List GivenOption) (w : Waiting) → IsKnown w → Fits (walk_at d w) ws (options_from choices d w ws))
       → Fits (walk_at done (value n)) (x ∷ ws) (options_from choices done (value n) (x ∷ ws))
   step_value done n x ws read k again = by (long_of x) refl
     where
@@ -511,7 +511,7 @@ module _ (name : Text) (choices : List Choice) where
           (again done (next (Some (n, x))) k)
       by (Some (m, v)) e = fails (walk_at done (value n)) x ws (turn_wanted done n x m v look e k)
 
-  fits : (words : List Text) → list_all is_readable words ≡ true → (done : List Given) (w : Waiting) → IsKnown w → Fits (walk_at done w) words (options_from choices done w words)
+  fits : (words : List Text) → list_all is_readable words ≡ true → (done : List GivenOption) (w : Waiting) → IsKnown w → Fits (walk_at done w) words (options_from choices done w words)
   fits [] read done (next p) k = ends done p (with_held done p) (settles done p k)
   fits [] read done (value n) k = ends_wanted done n k
   fits (x ∷ ws) read done (next p) k = step_next done p x ws read k (fits ws (and_right (is_readable x) (list_all is_readable ws) read))
@@ -520,7 +520,7 @@ module _ (name : Text) (choices : List Choice) where
 -- ---- the command
 
 -- clap takes words that are readable exactly where they are options, each of the command's and given once; its rows are theirs
-abbrev pub ClapFits : Text → List Choice → List Text → Option (List Given) → Type 0
+abbrev pub ClapFits : Text → List Choice → List Text → Option (List GivenOption) → Type 0
 ClapFits name choices words None = fault_of (parser_of name choices) words ≡ [] → ⊥
 ClapFits name choices words (Some options) =
     (fault_of (parser_of name choices) words ≡ []) × (matches_of (parser_of name choices) words ≡ map row options)
@@ -533,12 +533,12 @@ clap_fits name choices words read = by (options_from choices [] (next None) word
     same = leaf_fault (built (parser_of name choices)) nothing_held words refl
         ∙ ap (λ rs. level_fault (record (built (parser_of name [])).top { rules = rs }) [] nothing_held words false []) (filled choices)
 
-    by : (o : Option (List Given)) → Fits name choices (walk_at name choices [] (next None)) words o → ClapFits name choices words o
+    by : (o : Option (List GivenOption)) → Fits name choices (walk_at name choices [] (next None)) words o → ClapFits name choices words o
     by None bad = λ none. bad (sym same ∙ none)
     by (Some options) (good, is) = (same ∙ good, ap (λ rs. finished rs (walk rs [] nothing_held words).held) (filled choices) ∙ is)
 
 -- the value of an option, as clap's getter reads it
-value_of_rows : (name : Text) (options : List Given) → clap.first_of name (map row options) ≡ value_of name options
+value_of_rows : (name : Text) (options : List GivenOption) → clap.first_of name (map row options) ≡ value_of name options
 value_of_rows name [] = refl
 value_of_rows name (o ∷ os) = by (bytes_eq o.0 name) (value_of_rows name os)
   where
@@ -567,7 +567,7 @@ found_row (e ∷ es) name = by (bytes_eq e.0.now name) (found_row es name)
 -- the matches by the function
 abbrev pub ParsedAs : List Choice → List Text → Option ArgMatches → Type 0
 ParsedAs choices words None = options_of choices words ≡ None
-ParsedAs choices words (Some matches) = (options : List Given) × (options_of choices words ≡ Some options)
+ParsedAs choices words (Some matches) = (options : List GivenOption) × (options_of choices words ≡ Some options)
     × ((name : Text) → first_value (found_of matches) name ≡ value_of name options)
     × ((name : Text) → is_some (matched_of (found_of matches) name) ≡ is_given name options)
 
@@ -578,7 +578,7 @@ pub parsed : (choices : List Choice) (words : List Text) (m : ArgMatches) (a : A
     → list_all is_readable words ≡ true → (is_simple_and_free a ≡ true → fault_of a words ≡ []) → HasMatchesOf a words m → ParsedAs choices words (Some m)
 parsed choices words m a name is free read good has = by (options_from choices [] (next None) words) refl (clap_fits name choices words read)
   where
-    by : (o : Option (List Given)) → options_from choices [] (next None) words ≡ o → ClapFits name choices words o → ParsedAs choices words (Some m)
+    by : (o : Option (List GivenOption)) → options_from choices [] (next None) words ≡ o → ClapFits name choices words o → ParsedAs choices words (Some m)
     by None e bad = absurd (bad (ap (λ a. fault_of a words) (sym is) ∙ good (ap is_simple_and_free is ∙ free)))
     by (Some options) e fit =
         let rows : rows_of (found_of m) ≡ map row options = (has (ap is_simple is ∙ and_left _ _ free)).0 ∙ ap (λ a. matches_of a words) is ∙ fit.1 in (
@@ -597,7 +597,7 @@ pub refused : (choices : List Choice) (words : List Text) (a : App) (name : Text
     → options_of choices words ≡ None
 refused choices words a name k is free read other fails_by = by (options_from choices [] (next None) words) refl (clap_fits name choices words read)
   where
-    by : (o : Option (List Given)) → options_from choices [] (next None) words ≡ o → ClapFits name choices words o → options_of choices words ≡ None
+    by : (o : Option (List GivenOption)) → options_from choices [] (next None) words ≡ o → ClapFits name choices words o → options_of choices words ≡ None
     by None e bad = read_options choices words read ∙ e
     by (Some options) e fit = elim (fails_by (ap is_simple_and_free is ∙ free)) [
       | inl memory ↦ absurd (other memory)

@@ -1,7 +1,7 @@
 -- The words of each command.
 use Rattle.std.specs.Prelude.{◌≡◌, ◌≤◌, ⊤, List, [], ◌∷◌, Option, Some, None, codes, length}
 use Rattle.jt_base.specs.Limits.{default_limits}
-use Rattle.jt_words.specs.Options.{Choice, Given, Spell, Text, flag, is_given, value_of, valued}
+use Rattle.jt_words.specs.Options.{Choice, GivenOption, Spell, Text, flag, is_given, value_of, valued}
 use Rattle.jt_words.specs.Values.{ancestry_named, default_seed, number, one_worker, or_default, required, seed_named, sizes_named, total}
 use Rattle.jt_words.specs.declared.command.RunOptions.{RunOptions}
 use Rattle.jt_words.specs.declared.command.DrawsOptions.{DrawsOptions}
@@ -13,8 +13,8 @@ abbrev pub run_choices : List Choice
 run_choices = valued (codes "threads") ∷ valued (codes "seed") ∷ valued (codes "picks") ∷ valued (codes "max-turns") ∷ valued (codes "max-events") ∷ []
 
 -- the words are options of `run` or `trace`, and say this
-pub record IsRun (words : List Text) (run : RunOptions) : Type 0 where
-  pub options : List Given
+pub record AreRunOptions (words : List Text) (run : RunOptions) : Type 0 where
+  pub options : List GivenOption
   pub spell : Spell run_choices [] options words
   pub threads : or_default one_worker sizes_named (value_of (codes "threads") options) ≡ Some run.sizes
   pub seed : or_default default_seed seed_named (value_of (codes "seed") options) ≡ Some run.seeds.words
@@ -26,8 +26,8 @@ abbrev pub draws_choices : List Choice
 draws_choices = valued (codes "seed") ∷ valued (codes "count") ∷ valued (codes "path") ∷ []
 
 -- the words are options of `draws`, and say this
-pub record IsDraws (words : List Text) (draws : DrawsOptions) : Type 0 where
-  pub options : List Given
+pub record AreDrawsOptions (words : List Text) (draws : DrawsOptions) : Type 0 where
+  pub options : List GivenOption
   pub spell : Spell draws_choices [] options words
   pub seed : or_default default_seed seed_named (value_of (codes "seed") options) ≡ Some draws.seeds.words
   pub count : required (number 1 1000) (value_of (codes "count") options) ≡ Some draws.count
@@ -37,8 +37,8 @@ abbrev pub gen_choices : List Choice
 gen_choices = valued (codes "size") ∷ flag (codes "text") ∷ []
 
 -- the words are options of `gen`, and say this
-pub record IsGen (words : List Text) (gen : GenOptions) : Type 0 where
-  pub options : List Given
+pub record AreGenOptions (words : List Text) (gen : GenOptions) : Type 0 where
+  pub options : List GivenOption
   pub spell : Spell gen_choices [] options words
   pub size : required (number 1 80) (value_of (codes "size") options) ≡ Some gen.size
   pub text : is_given (codes "text") options ≡ gen.text
@@ -51,11 +51,11 @@ check_of (word ∷ words) = None
 -- the first word names the command, and the others are its options
 abbrev pub IsCommand : List Text → Command → Type 0
 IsCommand [] command = ⊥
-IsCommand (first ∷ words) (Run run) = (first ≡ codes "run") × IsRun words run
-IsCommand (first ∷ words) (Trace run) = (first ≡ codes "trace") × IsRun words run
+IsCommand (first ∷ words) (Run run) = (first ≡ codes "run") × AreRunOptions words run
+IsCommand (first ∷ words) (Trace run) = (first ≡ codes "trace") × AreRunOptions words run
 IsCommand (first ∷ words) Check = (first ≡ codes "check") × (words ≡ [])
-IsCommand (first ∷ words) (Draws draws) = (first ≡ codes "draws") × IsDraws words draws
-IsCommand (first ∷ words) (Gen gen) = (first ≡ codes "gen") × IsGen words gen
+IsCommand (first ∷ words) (Draws draws) = (first ≡ codes "draws") × AreDrawsOptions words draws
+IsCommand (first ∷ words) (Gen gen) = (first ≡ codes "gen") × AreGenOptions words gen
 
 -- the numbers of a run lie within their limits
 pub record IsRunWithinLimits (run : RunOptions) : Type 0 where
@@ -73,6 +73,6 @@ IsWithinLimits (Draws draws) = ((1 ≤ draws.count) × (draws.count ≤ 1000)) �
 IsWithinLimits (Gen gen) = (1 ≤ gen.size) × (gen.size ≤ 80)
 
 -- what the words say, or nothing exactly where they say nothing
-abbrev pub Answers : {X : Type 0} → (X → Type 0) → Option X → Type 0
-Answers says (Some x) = says x
-Answers {X} says None = (x : X) → says x → ⊥
+abbrev pub Exactly : {X : Type 0} → (X → Type 0) → Option X → Type 0
+Exactly says (Some x) = says x
+Exactly {X} says None = (x : X) → says x → ⊥

@@ -7,7 +7,7 @@ use Rattle.clap.specs.Words.{App, Rule, first_value, found_of, matched_of, new_a
 use Rattle.clap.specs.declared.builder.action.ArgAction.TheVariants.{Set}
 use Rattle.clap.specs.declared.parser.matches.ArgMatches.{ArgMatches}
 use Rattle.jt_words.specs.Commands.{draws_choices, gen_choices, run_choices}
-use Rattle.jt_words.specs.Options.{Choice, Given, Spell, Text, is_given, value_of}
+use Rattle.jt_words.specs.Options.{Choice, GivenOption, Spell, Text, is_given, value_of}
 
 -- a word that begins with a hyphen begins with two and goes on
 abbrev pub is_readable : Text → Bool
@@ -56,8 +56,8 @@ gen_parser = parser_of (codes "gen") gen_choices
 
 -- the matches are there exactly where the words spell options of these choices, and have what is given
 abbrev pub Parsed : List Choice → List Text → Option ArgMatches → Type 0
-Parsed choices words None = (options : List Given) → Spell choices [] options words → ⊥
-Parsed choices words (Some matches) = (options : List Given) × Spell choices [] options words
+Parsed choices words None = (options : List GivenOption) → Spell choices [] options words → ⊥
+Parsed choices words (Some matches) = (options : List GivenOption) × Spell choices [] options words
     × ((name : Text) → first_value (found_of matches) name ≡ value_of name options)
     × ((name : Text) → is_some (matched_of (found_of matches) name) ≡ is_given name options)
 

@@ -1,7 +1,7 @@
 //! From words to commands.
 
 ghost use Rattle.std.specs.Prelude.{Some, ◌≡◌, ◌∷◌, IfNone, IfOk, IfSome, map, option_map, string_bytes};
-ghost use Rattle.jt_words.specs.Commands.{Answers, IsCommand, IsDraws, IsGen, IsRun, check_of};
+ghost use Rattle.jt_words.specs.Commands.{Exactly, IsCommand, AreDrawsOptions, AreGenOptions, AreRunOptions, check_of};
 ghost use Rattle.jt_words.specs.declared.command.DrawsOptions.{DrawsOptions as DrawsValue};
 ghost use Rattle.jt_words.specs.declared.command.RunOptions.{RunOptions as RunValue};
 ghost use Rattle.jt_words.specs.declared.command.GenOptions.{GenOptions as GenValue};
@@ -41,7 +41,7 @@ fn run_with(
 
 /// What the words behind `run` or `trace` say, and nothing exactly where they say nothing.
 fn run_options(alloc: Global, words: &[String]) -> Result<Option<RunOptions>, AllocError>
-    ensures { IfOk result (Answers (IsRun (map string_bytes words.now))) }
+    ensures { IfOk result (Exactly (AreRunOptions (map string_bytes words.now))) }
 {
     match matches_of(run_parser(alloc)?, words)? {
         None => Ok(None),
@@ -89,7 +89,7 @@ fn draws_with(
 
 /// What the words behind `draws` say, and nothing exactly where they say nothing.
 fn draws_options(alloc: Global, words: &[String]) -> Result<Option<DrawsOptions>, AllocError>
-    ensures { IfOk result (Answers (IsDraws (map string_bytes words.now))) }
+    ensures { IfOk result (Exactly (AreDrawsOptions (map string_bytes words.now))) }
 {
     match matches_of(draws_parser(alloc)?, words)? {
         None => Ok(None),
@@ -112,7 +112,7 @@ fn gen_with(size: Option<u32>, text: bool) -> Option<GenOptions>
 
 /// What the words behind `gen` say, and nothing exactly where they say nothing.
 fn gen_options(alloc: Global, words: &[String]) -> Result<Option<GenOptions>, AllocError>
-    ensures { IfOk result (Answers (IsGen (map string_bytes words.now))) }
+    ensures { IfOk result (Exactly (AreGenOptions (map string_bytes words.now))) }
 {
     match matches_of(gen_parser(alloc)?, words)? {
         None => Ok(None),
@@ -180,7 +180,7 @@ fn command_behind(
     first: &[u8],
     words: &[String],
 ) -> Result<Option<Command>, AllocError>
-    ensures { IfOk result (Answers (IsCommand (first.now ∷ map string_bytes words.now))) }
+    ensures { IfOk result (Exactly (IsCommand (first.now ∷ map string_bytes words.now))) }
 {
     if first == b"run".as_slice() {
         let run = run_options(alloc, words)?;
@@ -206,7 +206,7 @@ fn command_behind(
 
 /// The command that the words ask for, and nothing exactly where they are no command.
 pub fn command_named(alloc: Global, words: &[String]) -> Result<Option<Command>, OutOfMemory>
-    ensures { IfOk result (Answers (IsCommand (map string_bytes words.now))) }
+    ensures { IfOk result (Exactly (IsCommand (map string_bytes words.now))) }
 {
     match words {
         [first, options @ ..] => Ok(command_behind(alloc, first.as_bytes(), options)?),

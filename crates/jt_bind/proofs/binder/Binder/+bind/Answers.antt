@@ -17,8 +17,8 @@ use Rattle.jt_nodes.specs.Views.{operands_plan, turn_plan}
 use Rattle.jt_lowered.specs.Loops.{while_of, for_of}
 use Rattle.jt_lowered.specs.Chains.{none_of, all_more, chain_of, chained, guard_of, guarded}
 use Rattle.jt_lowered.specs.Lowered.{number_literal, least_literal, greatest_literal, operated, callee_of}
-use Rattle.jt_bound.specs.Made.{Made, made, with, both, three}
-use Rattle.jt_bound.specs.States.{State, entered, turned}
+use Rattle.jt_bound.specs.Made.{WalkResult, made, with, both, three}
+use Rattle.jt_bound.specs.States.{WalkState, entered, turned}
 use Rattle.jt_bound.specs.Walked.{walked, walked_all, walked_pieces, walked_terms, walked_arms, walked_leap, walked_step, walked_steps}
 use Rattle.jt_bind.specs.Walks.{numbers, state}
 use Rattle.jt_bound.proofs.Arms.{arm_made, branch_of, branch_made}
@@ -93,7 +93,7 @@ guard-returns t c =
 
 pub print-loop-item-preserved : goal.print-loop-item-preserved
 print-loop-item-preserved t c =
-    let one : Made State Plan = walked (numbers c.args.self.now) (state c.loop-item.walk) (item_view c.item-item.result) in
+    let one : WalkResult WalkState Plan = walked (numbers c.args.self.now) (state c.loop-item.walk) (item_view c.item-item.result) in
     let done : one.state ≡ state c.piece.new.walk = ap (λ m. m.state) c.in_ok-piece.ensures in
     let more : with_last (map piece_plan c.loop-item.pieces) (piece_of (item_view c.item-item.result) one.it) ≡ map piece_plan c.piece.new.pieces = ap (λ m. m.it) c.in_ok-piece.ensures in
     grown piece_before (λ s ys. walked_pieces (numbers c.args.self.now) s (item_views ys)) c.args.items.now c.loop-item.item-index c.item-item.result (map piece_plan c.loop-item.pieces) (map piece_plan c.piece.new.pieces) (piece_of (item_view c.item-item.result) one.it) (state c.loop-item.walk) (state c.piece.new.walk) _

@@ -10,7 +10,7 @@ use Rattle.jt_conditions.specs.Events.{EventState, event_left_by}
 use Rattle.jt_conditions.specs.Locks.{Holder, lock_left_by}
 use Rattle.jt_conditions.specs.Semaphores.{Semaphore, semaphore_left_by}
 use Rattle.jt_objects.specs.declared.shared.Shared.{Shared}
-use Rattle.jt_objects.specs.States.{State, OfChannel, OfAtomic, OfEvent, OfCondition, OfLock, OfSemaphore, left_by}
+use Rattle.jt_objects.specs.States.{ObjectState, OfChannel, OfAtomic, OfEvent, OfCondition, OfLock, OfSemaphore, left_by}
 use Rattle.jt_objects.specs.Needs.{state_of}
 use Rattle.jt_objects.proofs.KindLeft.{channels, atomics, events, conditions, locks, semaphores}
 use Rattle.jt_objects.proofs.Left as kind
@@ -18,9 +18,9 @@ use Rattle.jt_objects.proofs.Answering.{unmade_allowed}
 use Rattle.jt_objects.proofs.shared.Shared.allows.Goals as goal
 
 -- of a state under another name
-at : (task : List ℕ) (op : Op) (self variant : Shared) (answer : Bool) → self ≡ variant → Allowed State (left_by (object_of task op)) task op (state_of variant) answer → Allowed State (left_by (object_of task op)) task op (state_of self) answer
+at : (task : List ℕ) (op : Op) (self variant : Shared) (answer : Bool) → self ≡ variant → Allowed ObjectState (left_by (object_of task op)) task op (state_of variant) answer → Allowed ObjectState (left_by (object_of task op)) task op (state_of self) answer
 at task op self variant answer is a =
-    subst (λ (s : Shared). Allowed State (left_by (object_of task op)) task op (state_of s) answer) (sym is) a
+    subst (λ (s : Shared). Allowed ObjectState (left_by (object_of task op)) task op (state_of s) answer) (sym is) a
 
 pub returns-in-Task : goal.returns-in-Task
 returns-in-Task c =
