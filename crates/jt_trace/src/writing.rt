@@ -5,9 +5,9 @@ ghost use Rattle.jt_trace.specs.Views.{view};
 ghost use Rattle.jt_trace_text.specs.Texts.{HasText, IsTraceText};
 ghost use Rattle.jt_trace_text.specs.Written as spec;
 
-use crate::entries::entries;
 use crate::trace::Trace;
-use crate::words::{number, put};
+use crate::write_entries::entries;
+use crate::write_words::{number, put};
 use jt_base::{Limits, OutOfMemory, Seeds, Sizes, Text};
 use std::alloc::Global;
 
@@ -94,14 +94,14 @@ fn text_of(alloc: Global, trace: &Trace) -> Result<String, OutOfMemory>
     Ok(text)
 }
 
-/// The text of a trace.
+/// The text of a trace, line by line. Where the trace has a text in the format, this is the one.
 ///
 /// # Errors
 ///
 /// Want of memory.
 pub fn write_trace(alloc: Global, trace: &Trace) -> Result<Text, OutOfMemory>
-    requires { HasText (view trace.now) }
-    ensures { IfOk result (λ text. IsTraceText (view trace.now) text) }
+    ensures spelled { IfOk result (λ text. text ≡ spec.trace_text (view trace.now)) }
+    ensures text { IfOk result (λ text. HasText (view trace.now) → IsTraceText (view trace.now) text) }
 {
     let text = text_of(alloc, trace)?;
     Ok(Text::from_string(text))

@@ -6,7 +6,7 @@ ghost use Rattle.jt_base.specs.declared.operation.Op.TheVariants as op;
 ghost use Rattle.jt_trace_text.specs.Words as word;
 ghost use Rattle.jt_trace_text.specs.Operations as spec;
 
-use crate::words::{fault, flag, hex, how, int, name, number, path, put, value};
+use crate::write_words::{fault, flag, hex, how, int, name, number, path, put, value};
 use jt_base::{Fault, How, Name, Op, OutOfMemory, Path, Text, Value};
 use std::alloc::Global;
 

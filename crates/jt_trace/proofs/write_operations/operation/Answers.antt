@@ -1,5 +1,5 @@
 -- The longest words.
-use Rattle.jt_trace.proofs.operations.operation.Goals as goal
+use Rattle.jt_trace.proofs.write_operations.operation.Goals as goal
 
 pub returns-in-NewChannel : goal.returns-in-NewChannel
 returns-in-NewChannel c = rw c.in-NewChannel.is c.object_and_number.ensures

@@ -6,8 +6,8 @@ ghost use Rattle.jt_trace_text.specs.Operations.{spaced, operation_text};
 ghost use Rattle.jt_trace_text.specs.Entries as spec;
 ghost use Rattle.jt_trace_text.specs.Written.{entries_text};
 
-use crate::operations::operation;
-use crate::words::{flag, int, number, path, put, value};
+use crate::write_operations::operation;
+use crate::write_words::{flag, int, number, path, put, value};
 use jt_base::{Entry, OutOfMemory, Reply};
 use std::alloc::Global;
 
