@@ -1,4 +1,3 @@
 pub mod Stopped
 pub mod Complete
 pub mod Answered
-pub mod Numbers

@@ -1,6 +1,6 @@
 pub mod Faults
 pub mod Status
-pub mod Words
+pub mod Asked
 pub mod Scripts
 pub mod Stops
 pub mod Tool

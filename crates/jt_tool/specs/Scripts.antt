@@ -39,9 +39,8 @@ abbrev pub IsAccepted : Option (List ℕ) → Type 0
 IsAccepted None = ⊥
 IsAccepted (Some bytes) = (length bytes ≤ most_script) × (program : ProgramPlan) × IsProgramOf bytes program
 
--- a source was read to its end, and gave no more bytes than a script may have, and these have this program
-pub record GivesProgram (before after : Option (List ℕ)) (program : ProgramPlan) : Type 0 where
-  pub bytes : List ℕ
+-- a source was read to its end, and gave these bytes, no more than a script may have, which have this program
+pub record GivesProgram (before after : Option (List ℕ)) (bytes : List ℕ) (program : ProgramPlan) : Type 0 where
   pub read : ReadsToEnd before after bytes
   pub short : length bytes ≤ most_script
   pub is : IsProgramOf bytes program

@@ -1,5 +1,5 @@
 -- Why a command stops before its run.
-use Rattle.std.specs.Prelude.{◌≡◌, ℕ, ◌+◌, ◌≤◌, List, Option, Some, None, length, IsUtf8}
+use Rattle.std.specs.Prelude.{◌≡◌, ℕ, ◌+◌, ◌≤◌, List, Option, Some, Result, Ok, Err, length, IsUtf8}
 use Rattle.jt_base.specs.Limits.{most_script, most_open}
 use Rattle.jt_base.specs.Outside.{Rose, ReadsToEnd, Gives}
 use Rattle.jt_forms.specs.Built.{unbuilt}
@@ -16,7 +16,7 @@ use Rattle.jt_naming.specs.Rules.{broken}
 use Rattle.jt_naming.specs.Scripts.{Breaks}
 use Rattle.jt_syntax.specs.Tree.{TopTree}
 use Rattle.jt_syntax.specs.declared.token.Token.{Token}
-use Rattle.jt_tool.specs.declared.command.Command.{Command}
+use Rattle.jt_tool.specs.declared.command.RunCommand.{RunCommand}
 use Rattle.jt_tool.specs.declared.reading.ReadError.{ReadError}
 use Rattle.jt_tool.specs.declared.reading.ReadError.TheVariants as read_error
 use Rattle.jt_tool.specs.declared.report.Refusal.TheVariants.{BadCharacter, OpenString, NumberTooLarge, Unexpected, TooDeep, NotBuilt, UnknownName, CapturedAssigned, AmbiguousGlobal, TwiceDefined, WrongCount, NoConstant, BadJump}
@@ -110,7 +110,7 @@ StopsSource before after was is TooLarge = Gives before after (most_script + 1)
 StopsSource before after was is OutOfMemory = Unit {0}
 StopsSource before after was is Usage = ⊥
 
--- why a command made no run: the words are none, or the source gave no program
-abbrev pub StopsCommand : Option Command → Option (List ℕ) → Option (List ℕ) → ℕ → ℕ → Stop → Type 0
-StopsCommand None before after was is stop = stop ≡ Usage
-StopsCommand (Some command) before after was is stop = StopsSource before after was is stop
+-- why a command made no run: none was found in the words, for this reason, or the source gave no program
+abbrev pub StopsCommand : Result RunCommand Stop → Option (List ℕ) → Option (List ℕ) → ℕ → ℕ → Stop → Type 0
+StopsCommand (Err reason) before after was is stop = stop ≡ reason
+StopsCommand (Ok command) before after was is stop = StopsSource before after was is stop

@@ -1,13 +1,13 @@
 //! What a command answers: the public report of its run, or of why there was none.
 
-ghost use Rattle.std.specs.Prelude.{◌≡◌, ◌≤◌, [], IfSome};
-ghost use Rattle.jt_tool.specs.Outcomes.{EndsAs, IsTold, TellsFailure};
+ghost use Rattle.std.specs.Prelude.{◌≡◌, ◌≤◌, [], IfOk};
+ghost use Rattle.jt_tool.specs.Outcomes.{AnswersAsked, EndsAs, TellsFailure};
 ghost use Rattle.jt_tool.specs.Stops.{status_of_stop};
-ghost use Rattle.jt_tool.specs.Tool.{Answers, status_of_end};
+ghost use Rattle.jt_tool.specs.Tool.{status_of_end};
 
-use crate::command::Command;
+use crate::command::RunCommand;
 use crate::report::{Report, Status};
-use crate::run::{Ran, run_command};
+use crate::run::{Ran, run_asked};
 use crate::stop::Stop;
 use crate::writing::write_all;
 use jt_base::{Sink, Source, Text};
@@ -68,20 +68,20 @@ fn without_run(alloc: Global, stop: Stop) -> Outcome
     }
 }
 
-/// Writes the lines of a run.
+/// Writes what is to be written of a run.
 fn written<O: Sink>(ran: Ran, out: &mut O) -> Outcome
-    requires { IsTold ran }
+    requires { TellsFailure (status_of_end ran.end) ran.failure }
     ensures history { result.report.history.items ≡ ran.history.items }
-    ensures status { EndsAs (status_of_end ran.end) ran.lines (O.written out.old) (O.written out.new) (O.faults out.old) (O.faults out.new) result.report.status }
+    ensures status { EndsAs (status_of_end ran.end) ran.text (O.written out.old) (O.written out.new) (O.faults out.old) (O.faults out.new) result.report.status }
     ensures failure { TellsFailure result.report.status result.failure }
 {
     let Ran {
         history,
         end,
-        lines,
+        text,
         failure,
     } = ran;
-    let status = match write_all(out, lines.bytes()) {
+    let status = match write_all(out, text.bytes()) {
         Ok(()) => Status::from(end),
         Err(_) => Status::WriteFault,
     };
@@ -91,18 +91,18 @@ fn written<O: Sink>(ran: Ran, out: &mut O) -> Outcome
     }
 }
 
-/// Does a command. Where there is none, the words were no command.
+/// Does the command that was found in the words, if one was.
 pub(crate) fn answer<S: Source, O: Sink>(
     alloc: Global,
-    command: Option<Command>,
+    asked: Result<RunCommand, Stop>,
     source: &mut S,
     out: &mut O,
 ) -> Outcome
-    requires worker { IfSome command (λ chosen. 1 ≤ chosen.sizes.default) }
-    ensures answers { Answers S.left S.faults O.written O.faults command source.old source.new out.old out.new result.report.status result.report.history.items }
+    requires worker { IfOk asked (λ command. 1 ≤ command.options.sizes.default) }
+    ensures answers { AnswersAsked S.left S.faults O.written O.faults asked source.old source.new out.old out.new result.report.status result.report.history.items }
     ensures failure { TellsFailure result.report.status result.failure }
 {
-    match run_command(alloc, command, source) {
+    match run_asked(alloc, asked, source) {
         Ok(ran) => written(ran, out),
         Err(stop) => without_run(alloc, stop),
     }

@@ -14,6 +14,5 @@ mod stop;
 mod tool;
 mod writing;
 
-pub use command::Command;
 pub use report::{Refusal, Report, Status};
 pub use tool::{plain_tool, run_tool, tell};

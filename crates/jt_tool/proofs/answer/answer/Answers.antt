@@ -6,11 +6,11 @@ pub returns-in-Ok-clause-answers : goal.returns-in-Ok-clause-answers
 returns-in-Ok-clause-answers g c =
     let run = c.in-Ok.ran in
     rw c.written.ensures.history (
-    ran g.S.Source.left g.S.Source.faults g.O.Sink.written g.O.Sink.faults c.args.command c.args.source.now c.run_command.new.source c.args.out.now c.written.new.out
-    run.history.items run.end run.lines c.written.result.report.status c.in-Ok.ensures.run c.in-Ok.ensures.told.lines c.written.ensures.status)
+    ran g.S.Source.left g.S.Source.faults g.O.Sink.written g.O.Sink.faults c.args.asked c.args.source.now c.run_asked.new.source c.args.out.now c.written.new.out
+    run.history.items run.end run.text c.written.result.report.status c.in-Ok.ensures.run c.written.ensures.status)
 
 pub returns-in-Err-clause-answers : goal.returns-in-Err-clause-answers
 returns-in-Err-clause-answers g c =
     rw c.without_run.ensures.status (
     rw c.without_run.ensures.history (
-    stopped g.S.Source.left g.S.Source.faults g.O.Sink.written g.O.Sink.faults c.args.command c.args.source.now c.run_command.new.source c.args.out.now c.in-Err.stop c.in-Err.ensures.stopped))
+    stopped g.S.Source.left g.S.Source.faults g.O.Sink.written g.O.Sink.faults c.args.asked c.args.source.now c.run_asked.new.source c.args.out.now c.in-Err.stop c.in-Err.ensures.stopped))

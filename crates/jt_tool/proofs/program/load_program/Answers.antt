@@ -16,8 +16,8 @@ if_ok P Q R (Err e) f p q = p
 
 pub returns-in-Ok-clause-program : goal.returns-in-Ok-clause-program
 returns-in-Ok-clause-program c =
-    let lexed : IsTokensOf c.args.bytes.now c.as_slice.result.now = rw c.as_slice.ensures.value c.in_ok-tokens.ensures.tokens in
-    let is : IsScriptText c.args.bytes.now c.as_slice.result.now (script_view c.in-Ok.script) = record {
+    let lexed : IsTokensOf c.args.text.now c.as_slice.result.now = rw c.as_slice.ensures.value c.in_ok-tokens.ensures.tokens in
+    let is : IsScriptText c.args.text.now c.as_slice.result.now (script_view c.in-Ok.script) = record {
       text = c.in_ok-tokens.ensures.text;
       lexed = lexed;
       parsed = c.in-Ok.ensures.script;
@@ -36,16 +36,16 @@ returns-in-Ok-clause-program c =
 
 pub returns-in-Ok-clause-refused : goal.returns-in-Ok-clause-refused
 returns-in-Ok-clause-refused c =
-    let lexed : IsTokensOf c.args.bytes.now c.as_slice.result.now = rw c.as_slice.ensures.value c.in_ok-tokens.ensures.tokens in
-    let is : IsScriptText c.args.bytes.now c.as_slice.result.now (script_view c.in-Ok.script) = record {
+    let lexed : IsTokensOf c.args.text.now c.as_slice.result.now = rw c.as_slice.ensures.value c.in_ok-tokens.ensures.tokens in
+    let is : IsScriptText c.args.text.now c.as_slice.result.now (script_view c.in-Ok.script) = record {
       text = c.in_ok-tokens.ensures.text;
       lexed = lexed;
       parsed = c.in-Ok.ensures.script;
       nested = c.in-Ok.ensures.nested;
     } in
-    if_err _ _ c.bound_program.result (λ e s. stop_of_script c.args.bytes.now c.as_slice.result.now (script_view c.in-Ok.script) e is c.in-Ok.ensures.built s) c.bound_program.ensures.refused
+    if_err _ _ c.bound_program.result (λ e s. stop_of_script c.args.text.now c.as_slice.result.now (script_view c.in-Ok.script) e is c.in-Ok.ensures.built s) c.bound_program.ensures.refused
 
 pub returns-clause-refused : goal.returns-clause-refused
 returns-clause-refused c =
-    let lexed : IsTokensOf c.args.bytes.now c.as_slice.result.now = rw c.as_slice.ensures.value c.in_ok-tokens.ensures.tokens in
-    stop_of_text c.args.bytes.now c.as_slice.result.now c.in-Err.stop c.in_ok-tokens.ensures.text lexed c.in-Err.ensures.refused
+    let lexed : IsTokensOf c.args.text.now c.as_slice.result.now = rw c.as_slice.ensures.value c.in_ok-tokens.ensures.tokens in
+    stop_of_text c.args.text.now c.as_slice.result.now c.in-Err.stop c.in_ok-tokens.ensures.text lexed c.in-Err.ensures.refused
