@@ -1,337 +1,233 @@
-//! Tasks of programs made by hand, advanced step by step.
+//! Tasks of scripts, advanced step by step.
 
-use jt_base::{
-    Fault, How, Job, Limits, Op, OutOfMemory, Path, Pool, Reply, Seeds, Sizes, Text, Value,
-};
+ghost use Rattle.std.specs.Prelude.{◌<◌, length};
+
+use crate::trees::script_of;
+use jt_base::{Fault, How, Job, Limits, Op, Path, Pool, Reply, Seeds, Sizes, Text, Value};
 use jt_meaning::Start;
-use jt_program::{Arm, Body, BuiltIn, Callee, Code, Fork, Literal, Piece, Program};
+use jt_program::Program;
+use jt_resolve::resolve;
 use jt_step::{Advance, TaskRun};
-use jt_syntax::{ArithmeticOperator, ComparisonOperator};
-use sqlite_items::{Boxed, Items};
-use std::alloc::Global;
+use std::alloc::{AllocError, Global};
 use std::process::Abort;
 use std::test::Fail;
 
-const WORDS: [u64; 5] = [1, 2, 3, 4, 5];
+const SEEDS: Seeds = Seeds {
+    words: [1, 2, 3, 4, 5],
+};
 
-fn number(n: i64) -> Code {
-    Code::Literal(Literal::Int(n))
-}
+// A script, how many ancestors its main task has, and the limit on its turns; the steps, each with the
+// turns that it gives and the reply that is noted then, if one is; and what each step tells, with the
+// number of the body and the values that a child takes.
+const ROWS: &str = "\
+while true end ¦0¦1000¦400 ok,400 -,400 -,400 ok,400 -¦begin, more, more, fail TurnLimit, over, 
+println(\"a\", 1) ¦0¦1¦0 -,0 ok,0 -,0 ok,0 ok,0 -¦begin, begin, print a1, print a1, end, over, 
+f(n) = n == 1 ? 7 : f(n - 1); println(f(10000)) ¦0¦20000¦0 ok,20000 ok,0 ok¦begin, print 7, end, 
+f(n) = n == 1 ? 7 : f(n - 1); println(f(10001)) ¦0¦20000¦0 ok,20000 ok,0 -¦begin, fail StackLimit, over, 
+f(n) = n == 1 ? 7 : f(n - 1); println(f(10001)) ¦0¦10000¦0 ok,20000 ok,0 -¦begin, fail TurnLimit, over, 
+x = 5; t = @spawn x; println(fetch(t)) ¦0¦1¦0 ok,0 -,0 ok,0 12,0 ok¦begin, spawn m.0 of 1 with 5, spawn m.0 of 1 with 5, fetch m.0, print 12, 
+x = 5; t = @spawn x; println(fetch(t)) ¦0¦1¦0 ok,0 ok,0 failed,0 ok,0 -¦begin, spawn m.0 of 1 with 5, fetch m.0, fail m.0, over, 
+if false; x = 5; end; @spawn x ¦0¦1¦0 ok,0 ok,0 -¦begin, fail Undefined, over, 
+x = 5; @spawn x ¦47¦1¦0 ok,0 ok,0 ok,0 -¦begin, spawn m.0.0.0.0.0.0.0.0.0.0.0.0.0.0.0.0.0.0.0.0.0.0.0.0.0.0.0.0.0.0.0.0.0.0.0.0.0.0.0.0.0.0.0.0.0.0.0.0 of 1 with 5, end, over, 
+x = 5; @spawn x ¦48¦1¦0 ok,0 ok,0 -¦begin, fail ForkTooDeep, over, 
+";
 
-// A program whose main task has two variables and does this, with one function, and a task's body that
-// takes one value.
-fn program(alloc: Global, function: Code, main: Code) -> Result<Program, OutOfMemory> {
-    let mut functions = Items::new(alloc);
-    functions.push(Body {
-        variables: 1,
-        code: function,
-    })?;
-    let mut tasks = Items::new(alloc);
-    tasks.push(Body {
-        variables: 2,
-        code: main,
-    })?;
-    tasks.push(Body {
-        variables: 1,
-        code: Code::Variable(0),
-    })?;
-    Ok(Program {
-        constants: 0,
-        functions,
-        tasks,
-    })
-}
+// A function whose task isn't waited for, though it is called inside `@sync`; what was replied at the end
+// to the two waits; and what comes next.
+const SYNC: &str = "f(x) = @spawn x; x = 5; @sync begin @spawn x; f(x); @spawn x end";
 
-fn call(alloc: Global, callee: Callee, argument: Code) -> Result<Code, OutOfMemory> {
-    let mut arguments = Items::new(alloc);
-    arguments.push(argument)?;
-    Ok(Code::Call(callee, arguments))
-}
+const WAITS: &str = "\
+ok,9 ok¦end, 
+failed,9 ok¦fail m.0, 
+ok,9 failed¦fail m.2, 
+failed,9 failed¦fail m.0, 
+";
 
-// f(n) = n == 1 ? 7 : f(n - 1)
-fn counts_down(alloc: Global) -> Result<Code, OutOfMemory> {
-    let mut comparisons = Items::new(alloc);
-    comparisons.push((ComparisonOperator::Equal, number(1)))?;
-    let mut arms = Items::new(alloc);
-    arms.push(Arm {
-        condition: Code::Comparison(Boxed::new(alloc, Code::Variable(0))?, comparisons),
-        body: number(7),
-    })?;
-    let mut operands = Items::new(alloc);
-    operands.push((ArithmeticOperator::Subtract, number(1)))?;
-    let less = Code::Operation(Boxed::new(alloc, Code::Variable(0))?, operands);
-    let further = call(alloc, Callee::Function(0), less)?;
-    Ok(Code::Branch(arms, Boxed::new(alloc, further)?))
-}
-
-// Calls the function, so that so many calls are open at once.
-fn nested(alloc: Global, calls: i64) -> Result<Program, OutOfMemory> {
-    let main = call(alloc, Callee::Function(0), number(calls))?;
-    program(alloc, counts_down(alloc)?, main)
-}
-
-// while true end
-fn endless(alloc: Global) -> Result<Program, OutOfMemory> {
-    let condition = Boxed::new(alloc, Code::Literal(Literal::Flag(true)))?;
-    let body = Boxed::new(alloc, Code::Block(Items::new(alloc)))?;
-    program(alloc, number(0), Code::While(0, 0, condition, body))
-}
-
-// println("a", 1)
-fn printing(alloc: Global) -> Result<Program, OutOfMemory> {
-    let mut pieces = Items::new(alloc);
-    pieces.push(Piece::Text(Items::from_slice(alloc, b"a")?))?;
-    pieces.push(Piece::Value(number(1)))?;
-    program(alloc, number(0), Code::Print(pieces))
-}
-
-// Makes a task that takes the variable in this slot.
-fn spawn(alloc: Global, slot: usize, is_awaited: bool) -> Result<Code, OutOfMemory> {
-    let mut captured = Items::new(alloc);
-    captured.push(slot)?;
-    Ok(Code::Spawn(Fork {
-        body: 1,
-        captured,
-        is_awaited,
-    }))
-}
-
-// x = 5; t = a task that takes the variable in this slot; fetch(t)
-fn fetching(alloc: Global, slot: usize) -> Result<Program, OutOfMemory> {
-    let mut parts = Items::new(alloc);
-    parts.push(Code::Assign(0, Boxed::new(alloc, number(5))?))?;
-    let made = spawn(alloc, slot, false)?;
-    parts.push(Code::Assign(1, Boxed::new(alloc, made)?))?;
-    let fetch = Callee::BuiltIn(BuiltIn::Fetch);
-    parts.push(call(alloc, fetch, Code::Variable(1))?)?;
-    program(alloc, number(0), Code::Block(parts))
-}
-
-// x = 5; @sync with three tasks that take x, of which it waits for the first and the last
-fn waiting(alloc: Global) -> Result<Program, OutOfMemory> {
-    let mut made = Items::new(alloc);
-    made.push(spawn(alloc, 0, true)?)?;
-    made.push(spawn(alloc, 0, false)?)?;
-    made.push(spawn(alloc, 0, true)?)?;
-    let mut parts = Items::new(alloc);
-    parts.push(Code::Assign(0, Boxed::new(alloc, number(5))?))?;
-    parts.push(Code::Sync(Boxed::new(alloc, Code::Block(made))?))?;
-    program(alloc, number(0), Code::Block(parts))
-}
-
-// What an advance is to tell; of a task that it makes the path and the value that the task takes.
-#[derive(Drop)]
-enum Said {
-    More,
-    Needs(Op),
-    Spawns(Path, i64),
-    Over,
-}
-
-fn is_start(start: &Start, value: i64) -> bool {
-    let captured = start.captured.as_slice();
-    let constants = start.constants.as_slice();
-    start.code == 1
-        && captured.len() == 1
-        && captured[0] == Value::Int(value)
-        && constants.is_empty()
-        && !start.home
-        && start.stream == WORDS
-        && start.how == How::Default
-}
-
-fn tells(said: &Advance, wanted: &Said) -> bool {
-    match (said, wanted) {
-        (Advance::More, Said::More) => true,
-        (Advance::Needs(op), Said::Needs(needed)) => *op == *needed,
-        (Advance::Spawns(op, start), Said::Spawns(path, value)) => {
-            *op == Op::Spawn(path.copy(), How::Default) && is_start(start, *value)
-        }
-        (Advance::Over, Said::Over) => true,
-        _ => false,
-    }
-}
-
-// Advances a task by so many turns, and replies what is given.
-fn goes_on(
-    rt: &impl Abort,
-    task: &mut TaskRun<'_>,
-    step: &(u32, Option<Reply>, Said),
-) -> Result<(), Fail> {
-    let (turns, reply, wanted) = step;
-    let said = task.advance(*turns)?;
-    let is_said = tells(&said, wanted);
-    drop(said);
-    assert!(rt; is_said);
-    if let Some(reply) = reply {
-        task.reserve_note()?;
-        task.note(1, reply.copy());
+fn push_path(out: &mut String, path: &Path) -> Result<(), AllocError> {
+    out.push_str("m")?;
+    for index in path.indexes() {
+        write!(out, ".{index}")?;
     }
     Ok(())
 }
 
-// Advances a task of this path step by step.
-fn advances(
-    rt: &impl Abort,
+fn push_text(out: &mut String, text: &Text) -> Result<(), AllocError> {
+    for byte in text.bytes() {
+        out.push(char::from(*byte))?;
+    }
+    Ok(())
+}
+
+fn push_fault(out: &mut String, fault: &Fault) -> Result<(), AllocError> {
+    match fault {
+        Fault::TaskFailed(path) => push_path(out, path),
+        _ => write!(out, "{fault:?}"),
+    }
+}
+
+fn push_operation(out: &mut String, op: &Op) -> Result<(), AllocError> {
+    let word = match op {
+        Op::Begin => "begin",
+        Op::End(Value::Nothing) => "end",
+        Op::Print(_) => "print ",
+        Op::Spawn(_, How::Default) => "spawn ",
+        Op::Fetch(_) => "fetch ",
+        Op::Wait(_) => "wait ",
+        Op::Fail(_) => "fail ",
+        _ => "another",
+    };
+    out.push_str(word)?;
+    match op {
+        Op::Print(text) => push_text(out, text),
+        Op::Spawn(path, _) => push_path(out, path),
+        Op::Fetch(path) => push_path(out, path),
+        Op::Wait(path) => push_path(out, path),
+        Op::Fail(fault) => push_fault(out, fault),
+        _ => Ok(()),
+    }
+}
+
+fn push_start(out: &mut String, start: &Start) -> Result<(), AllocError> {
+    write!(out, " of {}", start.code)?;
+    for value in start.captured.as_slice() {
+        if let Value::Int(number) = value {
+            write!(out, " with {number}")?;
+        }
+    }
+    if start.home || start.stream != SEEDS.words || start.how != How::Default {
+        out.push_str(" otherwise")?;
+    }
+    Ok(())
+}
+
+fn push_said(out: &mut String, said: &Advance) -> Result<(), AllocError> {
+    match said {
+        Advance::More => out.push_str("more")?,
+        Advance::Needs(op) => push_operation(out, op)?,
+        Advance::Spawns(op, start) => {
+            push_operation(out, op)?;
+            push_start(out, start)?;
+        }
+        Advance::Over => out.push_str("over")?,
+    }
+    out.push_str(", ")
+}
+
+fn reply_of(word: &str) -> Option<Reply> {
+    match word {
+        "-" => None,
+        "ok" => Some(Reply::Ok),
+        "failed" => Some(Reply::Failed),
+        number => match number.parse::<i64>() {
+            Ok(number) => Some(Reply::Val(Value::Int(number))),
+            Err(_) => None,
+        },
+    }
+}
+
+// Advances a task as a step says, and adds what it tells.
+fn push_step(out: &mut String, task: &mut TaskRun<'_>, step: &str) -> Result<(), Fail> {
+    if let Some((turns, reply)) = step.split_once(' ') {
+        let said = task.advance(turns.parse::<u32>().unwrap_or(0))?;
+        push_said(out, &said)?;
+        drop(said);
+        if let Some(reply) = reply_of(reply) {
+            task.reserve_note()?;
+            task.note(1, reply);
+        }
+    }
+    Ok(())
+}
+
+fn push_steps(out: &mut String, task: &mut TaskRun<'_>, steps: &str) -> Result<(), Fail> {
+    for step in steps.split(',') {
+        push_step(out, task, step)?;
+    }
+    Ok(())
+}
+
+fn path_below(depth: u32) -> Result<Path, Fail> {
+    let mut path = Path::main();
+    for _ in 0..depth {
+        path = path.child(0)?;
+    }
+    Ok(path)
+}
+
+// What the steps of a program's main task tell.
+fn told(
     alloc: Global,
     program: &Program,
-    path: Path,
-    limit: u64,
-    steps: &[(u32, Option<Reply>, Said)],
-) -> Result<(), Fail> {
-    assert!(rt; program.tasks.len() > 0);
-    let start = Start::main(alloc, &Seeds { words: WORDS })?;
+    depth: u32,
+    turns: u64,
+    steps: &str,
+) -> Result<String, Fail>
+    requires { 0 < length program.now.tasks }
+{
     let sizes = Sizes {
         default: 2,
         interactive: 1,
     };
-    let limits = Limits {
-        turns: limit,
-        events: 9,
-    };
+    let limits = Limits { turns, events: 9 };
+    let start = Start::main(alloc, &SEEDS)?;
+    let path = path_below(depth)?;
     let mut task = TaskRun::start(alloc, program, start, path, sizes, &limits, Pool::Default)?;
-    for step in steps {
-        goes_on(rt, &mut task, step)?;
-    }
-    Ok(())
+    let mut out = String::new(alloc);
+    push_steps(&mut out, &mut task, steps)?;
+    Ok(out)
 }
 
-fn ok() -> Option<Reply> {
-    Some(Reply::Ok)
+fn program_of(rt: &impl Abort, alloc: Global, text: &str) -> Result<Program, Fail> {
+    let script = script_of(rt, alloc, text)?;
+    Ok(resolve(alloc, &script)?)
+}
+
+fn check_row(rt: &impl Abort, alloc: Global, row: &str) -> Result<(), Fail> {
+    let mut parts = row.split('¦');
+    let program = program_of(rt, alloc, parts.next().unwrap_or(""))?;
+    assert!(rt; 0 < program.tasks.len());
+    let depth = parts.next().unwrap_or("").parse::<u32>().unwrap_or(0);
+    let turns = parts.next().unwrap_or("").parse::<u64>().unwrap_or(0);
+    let steps = parts.next().unwrap_or("");
+    let found = told(alloc, &program, depth, turns, steps)?;
+    assert_eq!(rt; found.as_str(), parts.next().unwrap_or(""));
+    Ok(())
 }
 
 #[test]
 fn tasks_stop_and_go_on(rt: HostRuntime) -> Result<(), Fail> {
-    let alloc = rt.alloc();
-    // 400 turns, 400 turns, and the 200 that are left
-    let steps = [
-        (400, ok(), Said::Needs(Op::Begin)),
-        (400, None, Said::More),
-        (400, None, Said::More),
-        (400, ok(), Said::Needs(Op::Fail(Fault::TurnLimit))),
-        (400, None, Said::Over),
-    ];
-    advances(&rt, alloc, &endless(alloc)?, Path::main(), 1000, &steps)?;
-    // an operation without a reply is needed again, and takes no turn
-    let steps = [
-        (0, None, Said::Needs(Op::Begin)),
-        (0, ok(), Said::Needs(Op::Begin)),
-        (
-            0,
-            None,
-            Said::Needs(Op::Print(Text::from_str(alloc, "a1")?)),
-        ),
-        (
-            0,
-            ok(),
-            Said::Needs(Op::Print(Text::from_str(alloc, "a1")?)),
-        ),
-        (0, ok(), Said::Needs(Op::End(Value::Nothing))),
-        (0, None, Said::Over),
-    ];
-    advances(&rt, alloc, &printing(alloc)?, Path::main(), 1, &steps)?;
-    Ok(())
-}
-
-#[test]
-fn calls_are_limited(rt: HostRuntime) -> Result<(), Fail> {
-    let alloc = rt.alloc();
-    let cases = [
-        (10000, 20000, Op::End(Value::Int(7))),
-        (10001, 20000, Op::Fail(Fault::StackLimit)),
-        (10001, 10000, Op::Fail(Fault::TurnLimit)),
-    ];
-    for (calls, limit, last) in cases {
-        let steps = [
-            (0, ok(), Said::Needs(Op::Begin)),
-            (20000, ok(), Said::Needs(last)),
-        ];
-        advances(
-            &rt,
-            alloc,
-            &nested(alloc, calls)?,
-            Path::main(),
-            limit,
-            &steps,
-        )?;
+    for row in ROWS.split('\n') {
+        if !row.is_empty() {
+            check_row(&rt, rt.alloc(), row)?;
+        }
     }
     Ok(())
 }
 
-#[test]
-fn tasks_are_made_and_fetched(rt: HostRuntime) -> Result<(), Fail> {
-    let alloc = rt.alloc();
-    let first = Path::main().child(0)?;
-    let cases = [
-        (Reply::Val(Value::Int(12)), Op::End(Value::Int(12))),
-        (Reply::Failed, Op::Fail(Fault::TaskFailed(first.copy()))),
-    ];
-    for (reply, last) in cases {
-        let steps = [
-            (0, ok(), Said::Needs(Op::Begin)),
-            (0, None, Said::Spawns(first.copy(), 5)),
-            (0, ok(), Said::Spawns(first.copy(), 5)),
-            (0, Some(reply), Said::Needs(Op::Fetch(first.copy()))),
-            (0, ok(), Said::Needs(last)),
-            (0, None, Said::Over),
-        ];
-        advances(&rt, alloc, &fetching(alloc, 0)?, Path::main(), 1, &steps)?;
-    }
-    // a variable that has no value yet, and a path that is full
-    let steps = [
-        (0, ok(), Said::Needs(Op::Begin)),
-        (0, ok(), Said::Needs(Op::Fail(Fault::Undefined))),
-    ];
-    advances(&rt, alloc, &fetching(alloc, 1)?, Path::main(), 1, &steps)?;
-    let mut deepest = Path::main();
-    for _i in 0..48 {
-        deepest = deepest.child(0)?;
-    }
-    let steps = [
-        (0, ok(), Said::Needs(Op::Begin)),
-        (0, ok(), Said::Needs(Op::Fail(Fault::ForkTooDeep))),
-    ];
-    advances(&rt, alloc, &fetching(alloc, 0)?, deepest, 1, &steps)?;
+fn check_waits(rt: &impl Abort, alloc: Global, program: &Program, row: &str) -> Result<(), Fail>
+    requires { 0 < length program.now.tasks }
+{
+    let (replies, last) = row.split_once('¦').unwrap_or(("", ""));
+    let mut steps = String::new(alloc);
+    write!(steps, "9 ok,9 ok,9 ok,9 ok,9 {replies},9 -")?;
+    let found = told(alloc, program, 0, 9, steps.as_str())?;
+    let mut wanted = String::new(alloc);
+    write!(
+        wanted,
+        "begin, spawn m.0 of 2 with 5, spawn m.1 of 1 with 5, spawn m.2 of 3 with 5, wait m.0, wait m.2, {last}"
+    )?;
+    assert_eq!(rt; found.as_str(), wanted.as_str());
     Ok(())
 }
 
-// At the end of the `@sync`: the reply of the first wait and of the second, and what comes next.
 #[test]
 fn tasks_are_waited_for(rt: HostRuntime) -> Result<(), Fail> {
-    let alloc = rt.alloc();
-    let first = Path::main().child(0)?;
-    let last = Path::main().child(2)?;
-    let third = Value::Task(last.copy());
-    let cases = [
-        (Reply::Ok, Reply::Ok, Op::End(third)),
-        (
-            Reply::Failed,
-            Reply::Ok,
-            Op::Fail(Fault::TaskFailed(first.copy())),
-        ),
-        (
-            Reply::Ok,
-            Reply::Failed,
-            Op::Fail(Fault::TaskFailed(last.copy())),
-        ),
-        (
-            Reply::Failed,
-            Reply::Failed,
-            Op::Fail(Fault::TaskFailed(first.copy())),
-        ),
-    ];
-    for (one, other, next) in cases {
-        let steps = [
-            (0, ok(), Said::Needs(Op::Begin)),
-            (0, ok(), Said::Spawns(first.copy(), 5)),
-            (0, ok(), Said::Spawns(Path::main().child(1)?, 5)),
-            (0, ok(), Said::Spawns(last.copy(), 5)),
-            (0, Some(one), Said::Needs(Op::Wait(first.copy()))),
-            (0, Some(other), Said::Needs(Op::Wait(last.copy()))),
-            (0, ok(), Said::Needs(next)),
-            (0, None, Said::Over),
-        ];
-        advances(&rt, alloc, &waiting(alloc)?, Path::main(), 1, &steps)?;
+    let program = program_of(&rt, rt.alloc(), SYNC)?;
+    assert!(&rt; 0 < program.tasks.len());
+    for row in WAITS.split('\n') {
+        if !row.is_empty() {
+            check_waits(&rt, rt.alloc(), &program, row)?;
+        }
     }
     Ok(())
 }

@@ -12,9 +12,13 @@ mod commands;
 #[cfg(test)]
 mod conditions;
 #[cfg(test)]
+mod draws;
+#[cfg(test)]
 mod evaluating;
 #[cfg(test)]
 mod forms;
+#[cfg(test)]
+mod generating;
 #[cfg(test)]
 mod numbers;
 #[cfg(test)]
@@ -22,13 +26,13 @@ mod objects;
 #[cfg(test)]
 mod picks;
 #[cfg(test)]
-mod printing;
-#[cfg(test)]
 mod sleeping;
 #[cfg(test)]
 mod streams;
 #[cfg(test)]
 mod tokens;
+#[cfg(test)]
+mod traces;
 #[cfg(test)]
 mod trees;
 #[cfg(test)]

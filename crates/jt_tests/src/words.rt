@@ -5,7 +5,7 @@ use jt_words::{Ancestor, Command, GenOptions, RunOptions, command_named};
 use std::alloc::Global;
 use std::test::Fail;
 
-fn named(alloc: Global, words: &[&str]) -> Result<Option<Command>, Fail> {
+pub(crate) fn named(alloc: Global, words: &[&str]) -> Result<Option<Command>, Fail> {
     let mut all = Vec::new(alloc);
     for word in words {
         all.push(String::from_str(alloc, word)?)?;
